@@ -2,3 +2,4 @@
 pub mod symbols;
 pub mod rules;
 pub mod books;
+pub mod files;
