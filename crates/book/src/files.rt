@@ -58,7 +58,7 @@ fn put_record(out: &mut [u8], at: usize, rule: &Rule) -> usize
 impl Book {
     // How many bytes the book's file has.
     fn file_size(&self) -> usize
-        ensures size { λ r. ⌜ r ≡ length (fileOf (rulesOf (now (self .entry)))) ⌝ }
+        ensures { λ r. ⌜ r ≡ length (fileOf (rulesOf (now (self .entry)))) ⌝ }
     {
         let rules = self.rules();
         let mut size = 2;
