@@ -1,3 +1,4 @@
 pub mod Codes
 pub mod Places
 pub mod Records
+pub mod Loads

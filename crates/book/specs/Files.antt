@@ -38,12 +38,15 @@ abbrev pub ruleAt : ℕ → Production → Answer (Unit {0}) → Answer (Option 
 ruleAt place p (granted _) = granted (Some p)
 ruleAt place p (refused (no n names)) = refused (no 17 (place ∷ n ∷ []))
 
--- a rule's body, of which the kind is the length of the right side
+-- the first n bytes of what is left of a record
+abbrev pub frontSays : List ℕ → ℕ → ℕ → Answer (List ℕ)
+frontSays bytes n place = refuseIf (ltb (length bytes) n) (no 16 (place ∷ [])) (granted (take n bytes))
+
+-- a rule's body, where the right side has n symbols
 abbrev pub bodySays : List Production → ℕ → ℕ → List ℕ → Answer (Option Production)
-bodySays rules place kind [] = refused (no 16 (place ∷ []))
-bodySays rules place kind (left ∷ rest) =
-    refuseIf (ltb (length rest) kind) (no 16 (place ∷ []))
-    (ruleAt place (left ⟶ take kind rest) (enterSays rules (left ⟶ take kind rest)))
+bodySays rules place n [] = refused (no 16 (place ∷ []))
+bodySays rules place n (left ∷ rest) =
+    andThen (frontSays rest n place) (λ right. ruleAt place (left ⟶ right) (enterSays rules (left ⟶ right)))
 
 -- nothing may follow the closing record
 abbrev pub endSays : ℕ → List ℕ → Answer (Option Production)
@@ -60,6 +63,10 @@ recordSays rules place (kind ∷ bytes) =
     cond (eqb kind closingKind) (closingSays rules place bytes)
     (refuseIf (not (within 1 longestRight kind)) (no 15 (place ∷ []))
     (bodySays rules place kind bytes))
+
+-- the rules after a record
+abbrev pub recordLeaves : List Production → ℕ → List ℕ → List Production
+recordLeaves rules place bytes = leaves (recordSays rules place bytes) (elim [ None ↦ rules | Some p ↦ rules ++ p ∷ [] ]) rules
 
 abbrev pub width : Production → ℕ
 width p = length (recordOf p)

@@ -6,6 +6,8 @@ use Rattle.book.specs.declared.rules.EnterError.{EnterError}
 use Rattle.book.specs.declared.rules.EnterError.the-variants as enter
 use Rattle.book.specs.declared.files.LoadError.{LoadError}
 use Rattle.book.specs.declared.files.LoadError.the-variants as load
+use Rattle.book.specs.declared.files.Ended.{Ended}
+use Rattle.book.specs.declared.files.EnterAt.{EnterAt}
 use Rattle.book.specs.declared.files.SaveError.{SaveError}
 use Rattle.book.specs.declared.files.SaveError.the-variants as save
 use Rattle.book.specs.declared.books.StrikeError.{StrikeError}
@@ -31,6 +33,19 @@ loadRefusal (load.Ended place) = no 16 (place ∷ [])
 loadRefusal (load.Enter place cause) = no 17 (place ∷ numberOf (enterRefusal cause) ∷ [])
 loadRefusal (load.Count place) = no 18 (place ∷ [])
 loadRefusal (load.Trailing place) = no 19 (place ∷ [])
+
+-- the refusals that travel up into a load's
+abbrev pub ofEnded : Ended → LoadError
+ofEnded e = load.Ended (e .place)
+
+abbrev pub endedRefusal : Ended → Refusal
+endedRefusal e = loadRefusal (ofEnded e)
+
+abbrev pub ofEnterAt : EnterAt → LoadError
+ofEnterAt e = load.Enter (e .place) (e .cause)
+
+abbrev pub enterAtRefusal : EnterAt → Refusal
+enterAtRefusal e = loadRefusal (ofEnterAt e)
 
 abbrev pub saveRefusal : SaveError → Refusal
 saveRefusal save.Short = no 20 []
