@@ -2,3 +2,5 @@ pub mod Codes
 pub mod Places
 pub mod Records
 pub mod Loads
+pub mod Admission
+pub mod RoundTrip

@@ -74,3 +74,16 @@ strikeSays rules k = refuseIf (not (within 1 (length rules) k)) (no 6 []) (grant
 -- the rules after a strike
 abbrev pub struck : List Production → ℕ → List Production
 struck rules k = leaves (strikeSays rules k) (λ _. take (k - 1) rules ++ drop k rules) rules
+
+-- The rules that a book can have: few enough, each within its bounds, no two equal.
+
+abbrev pub allBounded : List Production → Bool
+allBounded [] = true
+allBounded (p ∷ ps) = isBounded p && allBounded ps
+
+abbrev pub distinct : List Production → Bool
+distinct [] = true
+distinct (p ∷ ps) = not (holds ps p) && distinct ps
+
+abbrev pub isWellFormed : List Production → Bool
+isWellFormed rules = leb (length rules) mostRules && (allBounded rules && distinct rules)
