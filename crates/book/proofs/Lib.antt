@@ -4,3 +4,4 @@ pub mod Records
 pub mod Loads
 pub mod Admission
 pub mod RoundTrip
+pub mod Exact

@@ -1,6 +1,7 @@
 -- Book files: the bytes that stand for a list of rules, and what loading any bytes gives.
-use mathlib.Core.Bool.{Bool, cond, not}
+use mathlib.Core.Bool.{Bool, true, cond, not}
 use mathlib.Core.List.{List, [], _∷_, _++_}
+use mathlib.Core.Path.{_≡_}
 use Prim.Native.Nat.{ℕ, zero, suc, _+_, _-_}
 use lib.Dec.{eqb, ltb}
 use lib.ListN.{length, take, drop}
@@ -9,7 +10,7 @@ use Rattle.std.specs.declared.option.Option.the-variants.{Some, None}
 use Rattle.std.specs.shelf.Lists.{joined}
 use Rattle.book.specs.Answers.{Answer, granted, refused, Refusal, no, refuseIf, andThen, leaves}
 use Rattle.book.specs.Symbols.{longestRight, within}
-use Rattle.book.specs.Rules.{Production, _⟶_, enterSays}
+use Rattle.book.specs.Rules.{Production, _⟶_, enterSays, isWellFormed}
 
 -- Saving.
 
@@ -85,3 +86,11 @@ loadSays bytes = loadFrom bytes 0 [] 0
 -- the rules after a load
 abbrev pub loaded : List Production → List ℕ → List Production
 loaded rules bytes = leaves (loadSays bytes) (λ file. file) rules
+
+-- A saved book loads as the same rules: the first n bytes of a buffer are a file of these rules, if a book can have them.
+abbrev pub LoadsBack : List Production → ℕ → List ℕ → Type 0
+LoadsBack rules n buffer = isWellFormed rules ≡ true → loadSays (take n buffer) ≡ granted rules
+
+-- A file that loads is the one that save writes: these bytes are the file of the rules that they gave.
+abbrev pub IsFileOf : List ℕ → List Production → Type 0
+IsFileOf bytes rules = bytes ≡ fileOf rules

@@ -18,7 +18,7 @@ enterRefusal enter.Full = no 1 []
 enterRefusal enter.Left = no 2 []
 enterRefusal enter.Length = no 3 []
 enterRefusal (enter.Code i) = no 4 (i ∷ [])
-enterRefusal enter.Twice = no 5 []
+enterRefusal enter.Duplicate = no 5 []
 
 abbrev pub strikeRefusal : StrikeError → Refusal
 strikeRefusal strike.Missing = no 6 []

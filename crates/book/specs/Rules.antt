@@ -10,7 +10,7 @@ use Rattle.std.specs.declared.option.Option.{Option}
 use Rattle.std.specs.declared.option.Option.the-variants.{Some, None}
 use Rattle.std.specs.shelf.Text.{sameBytes}
 use Rattle.book.specs.Answers.{Answer, granted, refused, no, refuseIf, andThen, leaves}
-use Rattle.book.specs.Symbols.{longestRight, mostRules, within, isNonterminal, isSymbol}
+use Rattle.book.specs.Symbols.{firstNonterminal, lastSymbol, longestRight, mostRules, within, isNonterminal, isSymbol}
 
 -- a rule as a pair of sides
 pub record Production : Type 0 where
@@ -75,7 +75,25 @@ strikeSays rules k = refuseIf (not (within 1 (length rules) k)) (no 6 []) (grant
 abbrev pub struck : List Production → ℕ → List Production
 struck rules k = leaves (strikeSays rules k) (λ _. take (k - 1) rules ++ drop k rules) rules
 
--- The rules that a book can have: few enough, each within its bounds, no two equal.
+-- The rules that a book can have, in words ..
+
+-- a nonterminal on the left; one to six symbols on the right, none of them the end mark
+pub record Bounded (p : Production) : Type 0 where
+  pub leftIn : (firstNonterminal ≤ p .lhs) × (p .lhs ≤ lastSymbol)
+  pub sizeIn : (1 ≤ length (p .rhs)) × (length (p .rhs) ≤ longestRight)
+  pub codesIn : (i : ℕ) → i < length (p .rhs) → (1 ≤ getD (p .rhs) i 0) × (getD (p .rhs) i 0 ≤ lastSymbol)
+
+-- the rule at an index
+abbrev pub ruleIn : List Production → ℕ → Production
+ruleIn rules k = getD rules k (0 ⟶ [])
+
+-- few enough, each within its bounds, no two equal
+pub record WellFormed (rules : List Production) : Type 0 where
+  pub few : length rules ≤ mostRules
+  pub bounded : (k : ℕ) → k < length rules → Bounded (ruleIn rules k)
+  pub apart : (i j : ℕ) → i < j → j < length rules → ruleIn rules i ≡ ruleIn rules j → ⊥
+
+-- .. and as a test, which is true of just these.
 
 abbrev pub allBounded : List Production → Bool
 allBounded [] = true
@@ -87,3 +105,10 @@ distinct (p ∷ ps) = not (holds ps p) && distinct ps
 
 abbrev pub isWellFormed : List Production → Bool
 isWellFormed rules = leb (length rules) mostRules && (allBounded rules && distinct rules)
+
+abbrev pub Test-is-exact : Type 0
+Test-is-exact = (rules : List Production) → (isWellFormed rules ≡ true → WellFormed rules) × (WellFormed rules → isWellFormed rules ≡ true)
+
+-- a call on a book that can exist leaves one
+abbrev pub Keeps : List Production → List Production → Type 0
+Keeps before after = isWellFormed before ≡ true → isWellFormed after ≡ true

@@ -1,13 +1,15 @@
 // The book: rules in order of entry, numbered from 1, no two equal.
 ghost use mathlib.Core.Path.{_≡_};
+ghost use mathlib.Core.Bool.{true};
 ghost use mathlib.Core.List.{[], _∷_, _++_};
-ghost use Prim.Native.Nat.{min, _+_, _<_, _≤_};
+ghost use Prim.Native.Nat.{min, _<_};
 ghost use lib.ListN.{length, take};
 ghost use Rattle.std.specs.Vec.{refused};
 ghost use Rattle.book.specs.Answers.{said};
 ghost use Rattle.book.specs.Held.{productionOf, productionsOf, rulesOf};
 ghost use Rattle.book.specs.Refusals.{enterRefusal, strikeRefusal};
-ghost use Rattle.book.specs.Rules.{_⟶_, holds, enterSays, entered, strikeSays, struck};
+ghost use Rattle.book.specs.Symbols.{mostRules};
+ghost use Rattle.book.specs.Rules.{_⟶_, holds, enterSays, entered, strikeSays, struck, isWellFormed, Keeps, Test-is-exact};
 use crate::rules::EnterError;
 use crate::rules::Rule;
 
@@ -34,7 +36,9 @@ pub enum StrikeError {
 impl Book {
     // A book with no rules.
     pub fn new() -> Book
-        ensures { λ r. ⌜ rulesOf r ≡ [] ⌝ }
+        ensures rules { λ r. ⌜ rulesOf r ≡ [] ⌝ }
+        ensures sound { λ r. ⌜ isWellFormed (rulesOf r) ≡ true ⌝ }
+        ensures exact { λ _. ⌜ Test-is-exact ⌝ }
     {
         Book { rules: [Rule::filler(); MOST_RULES], count: Counts { rules: 0 } }
     }
@@ -43,7 +47,7 @@ impl Book {
     pub fn rules(&self) -> &[Rule]
         ensures value { λ r. ⌜ productionsOf (now r) ≡ rulesOf (now (self .entry)) ⌝ }
         ensures len { λ r. ⌜ length (now r) ≡ length (rulesOf (now (self .entry))) ⌝ }
-        ensures few { λ r. ⌜ length (now r) ≡ min (now (self .entry) .count .rules) 100 ⌝ }
+        ensures few { λ r. ⌜ length (now r) ≡ min (now (self .entry) .count .rules) mostRules ⌝ }
         ensures list { λ r. ⌜ now r ≡ take (now (self .entry) .count .rules) (now (self .entry) .rules) ⌝ }
     {
         let n = self.count.rules.min(MOST_RULES);
@@ -51,7 +55,7 @@ impl Book {
     }
 
     // Whether an equal rule is in the book.
-    pub fn holds(&self, rule: &Rule) -> bool
+    fn holds(&self, rule: &Rule) -> bool
         ensures { λ r. ⌜ r ≡ holds (rulesOf (now (self .entry))) (productionOf (now (rule .entry))) ⌝ }
     {
         let rules = self.rules();
@@ -65,7 +69,7 @@ impl Book {
 
     // Adds a rule at the end.
     fn push(&mut self, rule: Rule)
-        requires { ⌜ now self .count .rules < 100 ⌝ }
+        requires { ⌜ now self .count .rules < mostRules ⌝ }
         ensures { λ _. ⌜ rulesOf (now (self .exit)) ≡ rulesOf (now (self .entry)) ++ productionOf rule ∷ [] ⌝ }
     {
         let n = self.count.rules;
@@ -77,6 +81,7 @@ impl Book {
     pub fn enter(&mut self, left: u8, right: &[u8]) -> Result<(), EnterError>
         ensures answer { λ r. ⌜ said enterRefusal r ≡ enterSays (rulesOf (now (self .entry))) (left ⟶ now (right .entry)) ⌝ }
         ensures rules { λ _. ⌜ rulesOf (now (self .exit)) ≡ entered (rulesOf (now (self .entry))) (left ⟶ now (right .entry)) ⌝ }
+        ensures kept { λ _. ⌜ Keeps (rulesOf (now (self .entry))) (rulesOf (now (self .exit))) ⌝ }
         ensures same { λ r. ⌜ refused r (λ _. now (self .exit) ≡ now (self .entry)) ⌝ }
     {
         if self.rules().len() >= MOST_RULES {
@@ -84,7 +89,7 @@ impl Book {
         }
         let rule = Rule::new(left, right)?;
         if self.holds(&rule) {
-            return Err(EnterError::Twice);
+            return Err(EnterError::Duplicate);
         }
         self.push(rule);
         Ok(())
@@ -94,6 +99,7 @@ impl Book {
     pub fn strike(&mut self, number: usize) -> Result<(), StrikeError>
         ensures answer { λ r. ⌜ said strikeRefusal r ≡ strikeSays (rulesOf (now (self .entry))) number ⌝ }
         ensures rules { λ _. ⌜ rulesOf (now (self .exit)) ≡ struck (rulesOf (now (self .entry))) number ⌝ }
+        ensures kept { λ _. ⌜ Keeps (rulesOf (now (self .entry))) (rulesOf (now (self .exit))) ⌝ }
         ensures same { λ r. ⌜ refused r (λ _. now (self .exit) ≡ now (self .entry)) ⌝ }
     {
         let n = self.rules().len();

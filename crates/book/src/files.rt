@@ -1,14 +1,15 @@
 // Book files: a run of records, one byte of kind first, then a body whose length the kind fixes.
 // Kinds 1 to 6 are rules with that many right symbols; kind 7 closes the file with the number of rules.
 ghost use mathlib.Core.Path.{_≡_};
+ghost use mathlib.Core.Bool.{true};
 ghost use mathlib.Core.List.{[], _∷_, _++_};
 ghost use Prim.Native.Nat.{_+_, _-_, _^_, _<_, _≤_};
 ghost use lib.ListN.{length, take, drop};
 ghost use Rattle.book.specs.Answers.{granted, andThen, said, saidOf};
-ghost use Rattle.book.specs.Files.{recordOf, fileOf, saveSays, savedIn, frontSays, ruleAt, closingSays, recordSays, recordLeaves, width, loadSays, loaded};
+ghost use Rattle.book.specs.Files.{recordOf, fileOf, saveSays, savedIn, frontSays, ruleAt, closingSays, recordSays, recordLeaves, width, loadSays, loaded, LoadsBack, IsFileOf};
 ghost use Rattle.book.specs.Held.{productionOf, productionsOf, rulesOf};
 ghost use Rattle.book.specs.Refusals.{saveRefusal, loadRefusal, endedRefusal, enterAtRefusal, ofEnded, ofEnterAt};
-ghost use Rattle.book.specs.Rules.{_⟶_, enterSays, entered};
+ghost use Rattle.book.specs.Rules.{_⟶_, enterSays, entered, isWellFormed, Keeps};
 ghost use Rattle.std.specs.Options.{mapped};
 ghost use Rattle.std.specs.Slices.{found};
 ghost use Rattle.std.specs.Vec.{made, refused};
@@ -126,6 +127,7 @@ impl Book {
     pub fn save(&self, out: &mut [u8]) -> Result<usize, SaveError>
         ensures answer { λ r. ⌜ said saveRefusal r ≡ saveSays (rulesOf (now (self .entry))) (length (now (out .entry))) ⌝ }
         ensures buffer { λ _. ⌜ now (out .exit) ≡ savedIn (rulesOf (now (self .entry))) (now (out .entry)) ⌝ }
+        ensures loads { λ r. ⌜ made r (λ n. LoadsBack (rulesOf (now (self .entry))) n (now (out .exit))) ⌝ }
     {
         if out.len() < self.file_size() {
             return Err(SaveError::Short);
@@ -208,6 +210,9 @@ impl Book {
     pub fn load(&mut self, bytes: &[u8]) -> Result<(), LoadError>
         ensures answer { λ r. ⌜ said loadRefusal r ≡ andThen (loadSays (now (bytes .entry))) (λ _. granted tt) ⌝ }
         ensures rules { λ _. ⌜ rulesOf (now (self .exit)) ≡ loaded (rulesOf (now (self .entry))) (now (bytes .entry)) ⌝ }
+        ensures file { λ r. ⌜ made r (λ _. IsFileOf (now (bytes .entry)) (rulesOf (now (self .exit)))) ⌝ }
+        ensures sound { λ r. ⌜ made r (λ _. isWellFormed (rulesOf (now (self .exit))) ≡ true) ⌝ }
+        ensures kept { λ _. ⌜ Keeps (rulesOf (now (self .entry))) (rulesOf (now (self .exit))) ⌝ }
         ensures same { λ r. ⌜ refused r (λ _. now (self .exit) ≡ now (self .entry)) ⌝ }
     {
         let mut fresh = Book::new();

@@ -4,6 +4,7 @@ ghost use Prim.Native.Nat.{_≤_};
 ghost use lib.ListN.{take};
 ghost use mathlib.Core.Bool.{true};
 ghost use Rattle.book.specs.Rules.{isBounded, _⟶_};
+ghost use Rattle.book.specs.Symbols.{longestRight};
 mod sides;
 
 // How many symbols a right side has at the most.
@@ -14,7 +15,7 @@ pub struct Rule {
     left: u8,
     len: u8,
     right: [u8; LONGEST_RIGHT],
-    ghost short: { len ≤ 6 },
+    ghost short: { len ≤ longestRight },
     ghost bounded: { isBounded (left ⟶ take len right) ≡ true },
 }
 
@@ -24,5 +25,5 @@ pub enum EnterError {
     Left,
     Length,
     Code(usize),
-    Twice,
+    Duplicate,
 }

@@ -45,7 +45,7 @@ impl Rule {
     }
 
     // What lies in the places of a book that hold no rule.
-    pub fn filler() -> Rule {
+    pub(crate) fn filler() -> Rule {
         Rule { left: FIRST_NONTERMINAL, len: 1, right: [1; LONGEST_RIGHT] }
     }
 
@@ -64,7 +64,7 @@ impl Rule {
     }
 
     // Whether two rules have the same sides.
-    pub fn same(&self, other: &Rule) -> bool
+    pub(crate) fn same(&self, other: &Rule) -> bool
         ensures { λ r. ⌜ r ≡ sameRule (productionOf (now (self .entry))) (productionOf (now (other .entry))) ⌝ }
     {
         (self.left == other.left) & (self.right() == other.right())

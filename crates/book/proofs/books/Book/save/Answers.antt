@@ -8,9 +8,10 @@ use Rattle.std.proofs.shelf.Lists.{take-append-drop}
 use Rattle.std.proofs.shelf.Ways.{tells}
 use Rattle.std.specs.shelf.Lists.{joined}
 use Rattle.book.specs.Answers.{Answer, granted, leaves}
-use Rattle.book.specs.Files.{recordOf, fileOf, saveSays}
+use Rattle.book.specs.Files.{recordOf, fileOf, saveSays, loadSays}
 use Rattle.book.specs.Held.{productionOf, rulesOf}
 use Rattle.book.proofs.Records.{recordsOf, records-more, length-records-more, records-within, length-file, back-on}
+use Rattle.book.proofs.RoundTrip.{saved-loads}
 use Rattle.book.proofs.books.Book.save.Needs as need
 use Rattle.book.proofs.books.Book.save.Needs.{After-rules-rules, After-loop-rule}
 
@@ -63,4 +64,5 @@ returns c =
     let grants : granted end ≡ saveSays rules (length out) = ap granted size ∙ grind (arith, tells, fits) in
     record {
       answer = grants;
-      buffer = sym (take-append-drop end written) ∙ ap₂ _++_ front back ∙ ap (λ a. leaves a (λ n. fileOf rules ++ drop n out) out) grants }
+      buffer = sym (take-append-drop end written) ∙ ap₂ _++_ front back ∙ ap (λ a. leaves a (λ n. fileOf rules ++ drop n out) out) grants;
+      loads = λ w. ap loadSays front ∙ saved-loads rules w }
