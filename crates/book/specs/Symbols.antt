@@ -4,6 +4,9 @@ use Prim.Native.Nat.{ℕ}
 use lib.Dec.{leb}
 
 -- 0 is the end mark, 1 to 40 are terminals, 41 to 80 nonterminals
+abbrev pub lastTerminal : ℕ
+lastTerminal = 40
+
 abbrev pub firstNonterminal : ℕ
 firstNonterminal = 41
 
@@ -20,6 +23,9 @@ mostRules = 100
 
 abbrev pub within : ℕ → ℕ → ℕ → Bool
 within low high x = leb low x && leb x high
+
+abbrev pub isTerminal : ℕ → Bool
+isTerminal x = within 1 lastTerminal x
 
 abbrev pub isNonterminal : ℕ → Bool
 isNonterminal x = within firstNonterminal lastSymbol x

@@ -3,3 +3,5 @@ pub mod symbols;
 pub mod rules;
 pub mod books;
 pub mod files;
+#[cfg(test)]
+mod tests;

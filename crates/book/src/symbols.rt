@@ -1,9 +1,16 @@
 // The codes of symbols: 0 is the end mark, 1 to 40 are terminals, 41 to 80 nonterminals.
 ghost use mathlib.Core.Path.{_≡_};
-ghost use Rattle.book.specs.Symbols.{isNonterminal, isSymbol};
+ghost use Rattle.book.specs.Symbols.{isTerminal, isNonterminal, isSymbol};
 
+pub const LAST_TERMINAL: u8 = 40;
 pub const FIRST_NONTERMINAL: u8 = 41;
 pub const LAST_SYMBOL: u8 = 80;
+
+pub fn is_terminal(code: u8) -> bool
+    ensures { λ r. ⌜ r ≡ isTerminal code ⌝ }
+{
+    matches!(code, 1..=LAST_TERMINAL)
+}
 
 pub fn is_nonterminal(code: u8) -> bool
     ensures { λ r. ⌜ r ≡ isNonterminal code ⌝ }
