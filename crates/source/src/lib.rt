@@ -5,3 +5,5 @@ pub mod tapes;
 pub mod skips;
 pub mod lends;
 pub mod drains;
+#[cfg(test)]
+mod tests;

@@ -23,15 +23,15 @@ pub enum TextError {
 }
 
 #[derive(Drop)]
-pub struct Text<'a> {
+pub struct Text<'a, 'b> {
     bytes: &'a [u8],
-    letters: &'a [u8; TABLE_SIZE],
+    letters: &'b [u8; TABLE_SIZE],
     place: usize,
 }
 
-impl<'a> Text<'a> {
+impl<'a, 'b> Text<'a, 'b> {
     // The text of these bytes, by this letter table.
-    pub fn new(bytes: &'a [u8], letters: &'a [u8]) -> Result<Text<'a>, TextError>
+    pub fn new(bytes: &'a [u8], letters: &'b [u8]) -> Result<Text<'a, 'b>, TextError>
         ensures { λ r. ⌜ saidOf (λ t. textFrom (now (t .letters)) (t .place) (drop (t .place) (now (t .bytes)))) textRefusal r ≡ textSays (now (bytes .entry)) (now (letters .entry)) ⌝ }
     {
         if bytes.len() > MOST_BYTES {
@@ -44,7 +44,7 @@ impl<'a> Text<'a> {
     }
 }
 
-pub impl Source for Text<'_> as TextSource {
+pub impl Source for Text<'_, '_> as TextSource {
     ghost means = { λ t. textFrom (now (t .letters)) (t .place) (drop (t .place) (now (t .bytes))) };
 
     ghost terminals = { λ t. text-terminals (now (t .letters)) (t .place) (drop (t .place) (now (t .bytes))) };
