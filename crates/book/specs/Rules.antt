@@ -17,7 +17,7 @@ pub record Production : Type 0 where
   pub lhs : ℕ
   pub rhs : List ℕ
 
-infix 40 _⟶_
+infix 75 _⟶_
 abbrev pub _⟶_ : ℕ → List ℕ → Production
 l ⟶ ws = record { lhs = l; rhs = ws }
 

@@ -1,0 +1,9 @@
+pub mod Sets
+pub mod Numbered
+pub mod Relations
+pub mod Useful
+pub mod Items
+pub mod Lookahead
+pub mod States
+pub mod Build
+pub mod Cases

@@ -1,0 +1,2 @@
+// The construction: relations of a book, useful symbols, lookahead policies.
+pub mod cases;
