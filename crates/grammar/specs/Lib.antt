@@ -7,3 +7,5 @@ pub mod Lookahead
 pub mod States
 pub mod Build
 pub mod Cases
+pub mod Meaning
+pub mod Laws
