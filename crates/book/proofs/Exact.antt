@@ -22,7 +22,7 @@ within-from low high x h = and-from _ _ (le-leb low x (h .0)) (le-leb x high (h 
 
 -- Rules within their bounds.
 
-symbols-at : (xs : List ℕ) → allSymbols xs ≡ true → (i : ℕ) → i < length xs → (1 ≤ getD xs i 0) × (getD xs i 0 ≤ lastSymbol)
+pub symbols-at : (xs : List ℕ) → allSymbols xs ≡ true → (i : ℕ) → i < length xs → (1 ≤ getD xs i 0) × (getD xs i 0 ≤ lastSymbol)
 symbols-at [] a i h = absurd (omega arith)
 symbols-at (x ∷ xs) a zero h = within-parts 1 lastSymbol x (and-parts (isSymbol x) (allSymbols xs) a .0)
 symbols-at (x ∷ xs) a (suc i) h = symbols-at xs (and-parts (isSymbol x) (allSymbols xs) a .1) i (omega arith)
@@ -31,7 +31,7 @@ symbols-from : (xs : List ℕ) → ((i : ℕ) → i < length xs → (1 ≤ getD 
 symbols-from [] f = refl
 symbols-from (x ∷ xs) f = and-from _ _ (within-from 1 lastSymbol x (f 0 (omega arith))) (symbols-from xs (λ i h. f (suc i) (omega arith)))
 
-rule-bounded : (p : Production) → isBounded p ≡ true → Bounded p
+pub rule-bounded : (p : Production) → isBounded p ≡ true → Bounded p
 rule-bounded p b =
     let l = and-parts (isNonterminal (p .lhs)) (within 1 longestRight (length (p .rhs)) && allSymbols (p .rhs)) b in
     let r = and-parts (within 1 longestRight (length (p .rhs))) (allSymbols (p .rhs)) (l .1) in

@@ -7,5 +7,6 @@ pub mod Lookahead
 pub mod States
 pub mod Build
 pub mod Cases
+pub mod Ends
 pub mod Meaning
 pub mod Laws

@@ -1,2 +1,6 @@
 // The construction: relations of a book, useful symbols, lookahead policies.
+pub mod sets;
+pub mod growing;
+pub mod useful;
+pub mod relations;
 pub mod cases;

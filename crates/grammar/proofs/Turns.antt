@@ -1,0 +1,63 @@
+-- Counted loops, turn by turn: repeating a function, going through numbers, filling a table.
+use mathlib.Core.Bool.{Bool, true, false}
+use mathlib.Core.List.{List, [], _∷_, _++_, map}
+use mathlib.Core.Path.{_≡_, ap, ap₂, sym, _∙_}
+use Prim.Native.Nat.{ℕ, zero, suc, _+_, _-_, _<_, _≤_}
+use native.Mathlib.Omega.{arith}
+use lib.ListN.{length, take, set, length-set}
+use Rattle.std.proofs.shelf.Lists.{take-more-set, take-all}
+use Rattle.std.specs.declared.option.Option.the-variants.{Some, None}
+use Rattle.grammar.specs.Sets.{times, upFrom}
+use Rattle.grammar.specs.Useful.{lowest}
+
+-- what is left to repeat, one turn on and at the end
+pub times-more : {A : Type 0} (f : A → A) (n k : ℕ) (a : A) → k < n → times f (n - k) a ≡ times f (n - (k + 1)) (f a)
+times-more f n k a h = let e : n - k ≡ suc (n - (k + 1)) = omega arith in ap (λ m. times f m a) e
+
+pub times-done : {A : Type 0} (f : A → A) (n k : ℕ) (a : A) → n ≤ k → times f (n - k) a ≡ a
+times-done f n k a h = let e : n - k ≡ 0 = omega arith in ap (λ m. times f m a) e
+
+-- one number more, of those from x up to n
+pub up-more : (n x : ℕ) → x < n → upFrom x (n - x) ≡ x ∷ upFrom (x + 1) (n - (x + 1))
+up-more n x h =
+    let e : n - x ≡ suc (n - (x + 1)) = omega arith in
+    let f : suc x ≡ x + 1 = omega arith in
+    ap (upFrom x) e ∙ ap (λ y. x ∷ upFrom y (n - (x + 1))) f
+
+pub up-done : (n x : ℕ) → n ≤ x → upFrom x (n - x) ≡ []
+up-done n x h = let e : n - x ≡ 0 = omega arith in ap (upFrom x) e
+
+-- a table that is filled place by place: what is filled so far, one place on
+pub table-more : {A : Type 0} (g : ℕ → A) (k : ℕ) → map g (upFrom 0 (k + 1)) ≡ map g (upFrom 0 k) ++ g k ∷ []
+table-more g k = let e : k + 1 ≡ suc k = omega arith in ap (λ m. map g (upFrom 0 m)) e ∙ go k 0 ∙ ap (λ m. map g (upFrom 0 k) ++ g m ∷ []) (let z : 0 + k ≡ k = omega arith in z)
+  where
+    go : (n j : ℕ) → map g (upFrom j (suc n)) ≡ map g (upFrom j n) ++ g (j + n) ∷ []
+    go zero j = ap (λ m. g m ∷ []) (let z : j ≡ j + 0 = omega arith in z)
+    go (suc n) j = ap (λ q. g j ∷ q) (go n (suc j) ∙ ap (λ m. map g (upFrom (suc j) n) ++ g m ∷ []) (let z : suc j + n ≡ j + suc n = omega arith in z))
+
+-- a place of a table of n is filled
+pub fill-more : {A : Type 0} (g : ℕ → A) (n : ℕ) (all : List A) (x : ℕ) (v : A) → x < n → length all ≡ n → v ≡ g x → take x all ≡ map g (upFrom 0 x)
+  → (length (set all x v) ≡ n) × (take (x + 1) (set all x v) ≡ map g (upFrom 0 (x + 1)))
+fill-more g n all x v h l e inv =
+    (length-set all x v ∙ l, take-more-set all x v (omega arith) ∙ ap₂ (λ t w. t ++ w ∷ []) inv e ∙ sym (table-more g x))
+
+pub fill-done : {A : Type 0} (g : ℕ → A) (n : ℕ) (all : List A) (x : ℕ) → n ≤ x → x ≤ n → length all ≡ n → take x all ≡ map g (upFrom 0 x) → all ≡ map g (upFrom 0 n)
+fill-done g n all x low high l inv =
+    let e : x ≡ n = omega arith in
+    sym (take-all x all (omega arith)) ∙ inv ∙ ap (λ m. map g (upFrom 0 m)) e
+
+-- the lowest number that passes a test, looked for from x up to n
+module _ (p : ℕ → Bool) (n x : ℕ) where
+  lowest-turn : x < n → (t : Bool) → p x ≡ t → lowest p (upFrom x (n - x)) ≡ elim t [ true ↦ Some x | false ↦ lowest p (upFrom (x + 1) (n - (x + 1))) ]
+  lowest-turn h t e =
+    let step : lowest p (upFrom x (n - x)) ≡ elim (p x) [ true ↦ Some x | false ↦ lowest p (upFrom (x + 1) (n - (x + 1))) ] = ap (lowest p) (up-more n x h) in
+    step ∙ ap (λ b. elim b [ true ↦ Some x | false ↦ lowest p (upFrom (x + 1) (n - (x + 1))) ]) e
+
+  pub lowest-here : x < n → p x ≡ true → lowest p (upFrom x (n - x)) ≡ Some x
+  lowest-here h e = lowest-turn h true e
+
+  pub lowest-more : x < n → p x ≡ false → lowest p (upFrom x (n - x)) ≡ lowest p (upFrom (x + 1) (n - (x + 1)))
+  lowest-more h e = lowest-turn h false e
+
+  pub lowest-done : n ≤ x → lowest p (upFrom x (n - x)) ≡ None
+  lowest-done h = ap (lowest p) (up-done n x h)
