@@ -4,10 +4,10 @@ use mathlib.Core.List.{List, [], _∷_, _++_, map}
 use mathlib.Core.Path.{_≡_, ap, ap₂, sym, _∙_}
 use Prim.Native.Nat.{ℕ, zero, suc, _+_, _-_, _<_, _≤_}
 use native.Mathlib.Omega.{arith}
-use lib.ListN.{length, take, set, length-set}
-use Rattle.std.proofs.shelf.Lists.{take-more-set, take-all}
+use lib.ListN.{length, take, drop, getD, set, length-set}
+use Rattle.std.proofs.shelf.Lists.{append-assoc, take-more-set, take-all, drop-more, drop-set-lt}
 use Rattle.std.specs.declared.option.Option.the-variants.{Some, None}
-use Rattle.grammar.specs.Sets.{times, upFrom}
+use Rattle.grammar.specs.Sets.{times, upFrom, keep}
 use Rattle.grammar.specs.Useful.{lowest}
 
 -- what is left to repeat, one turn on and at the end
@@ -61,3 +61,23 @@ module _ (p : ℕ → Bool) (n x : ℕ) where
 
   pub lowest-done : n ≤ x → lowest p (upFrom x (n - x)) ≡ None
   lowest-done h = ap (lowest p) (up-done n x h)
+
+-- a list that is changed in place, element by element, beside another
+pub beside-more : {X Y : Type 0} (F : List X → List Y → List Y) (g : X → Y → Y)
+  → ((x : X) (xs : List X) (y : Y) (ys : List Y) → F (x ∷ xs) (y ∷ ys) ≡ g x y ∷ F xs ys)
+  → (xs : List X) (ys : List Y) (k : ℕ) (d : X) (e v : Y) → k < length xs → k < length ys → v ≡ g (getD xs k d) (getD ys k e)
+  → take (k + 1) (set ys k v) ++ F (drop (k + 1) xs) (drop (k + 1) (set ys k v)) ≡ take k ys ++ F (drop k xs) (drop k ys)
+beside-more F g step xs ys k d e v h i is =
+    let f : F (drop k xs) (drop k ys) ≡ g (getD xs k d) (getD ys k e) ∷ F (drop (k + 1) xs) (drop (k + 1) ys) =
+      ap (λ q. F q (drop k ys)) (drop-more xs k d h) ∙ ap (F (getD xs k d ∷ drop (k + 1) xs)) (drop-more ys k e i) ∙ step _ _ _ _ in
+    ap₂ (λ t u. t ++ F (drop (k + 1) xs) u) (take-more-set ys k v i) (drop-set-lt (k + 1) ys k v (omega arith))
+    ∙ append-assoc (take k ys) (v ∷ []) (F (drop (k + 1) xs) (drop (k + 1) ys))
+    ∙ ap (λ w. take k ys ++ w ∷ F (drop (k + 1) xs) (drop (k + 1) ys)) is ∙ ap (λ q. take k ys ++ q) (sym f)
+
+-- the numbers that pass a test, from x up to n
+pub keep-more : (p : ℕ → Bool) (n x : ℕ) → x < n → (t : Bool) → p x ≡ t
+  → keep p (upFrom x (n - x)) ≡ elim t [ true ↦ x ∷ keep p (upFrom (x + 1) (n - (x + 1))) | false ↦ keep p (upFrom (x + 1) (n - (x + 1))) ]
+keep-more p n x h t e =
+    let rest = keep p (upFrom (x + 1) (n - (x + 1))) in
+    let step : keep p (upFrom x (n - x)) ≡ elim (p x) [ true ↦ x ∷ rest | false ↦ rest ] = ap (keep p) (up-more n x h) in
+    step ∙ ap (λ b. elim b [ true ↦ x ∷ rest | false ↦ rest ]) e

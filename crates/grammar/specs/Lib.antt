@@ -8,5 +8,6 @@ pub mod States
 pub mod Build
 pub mod Cases
 pub mod Ends
+pub mod Relating
 pub mod Meaning
 pub mod Laws

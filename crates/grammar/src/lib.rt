@@ -3,4 +3,6 @@ pub mod sets;
 pub mod growing;
 pub mod useful;
 pub mod relations;
+pub mod items;
+pub mod lookaheads;
 pub mod cases;
