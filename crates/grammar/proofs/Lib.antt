@@ -1,5 +1,6 @@
 pub mod Rounds
 pub mod Turns
+pub mod Overlapping
 pub mod Rules
 pub mod Bounded
 pub mod Flagging
@@ -18,3 +19,7 @@ pub mod Closing
 pub mod Moving
 pub mod Completing
 pub mod Expanding
+pub mod Equalling
+pub mod Exploring
+pub mod Choosing
+pub mod Building

@@ -7,7 +7,7 @@ use native.Mathlib.Omega.{arith}
 use lib.ListN.{length, take, drop, getD, set, length-set}
 use Rattle.std.proofs.shelf.Lists.{append-assoc, take-more-set, take-all, drop-more, drop-set-lt}
 use Rattle.std.specs.declared.option.Option.the-variants.{Some, None}
-use Rattle.grammar.specs.Sets.{times, upFrom, keep}
+use Rattle.grammar.specs.Sets.{times, upFrom, keep, any}
 use Rattle.grammar.specs.Useful.{lowest}
 
 -- what is left to repeat, one turn on and at the end
@@ -81,3 +81,24 @@ keep-more p n x h t e =
     let rest = keep p (upFrom (x + 1) (n - (x + 1))) in
     let step : keep p (upFrom x (n - x)) ≡ elim (p x) [ true ↦ x ∷ rest | false ↦ rest ] = ap (keep p) (up-more n x h) in
     step ∙ ap (λ b. elim b [ true ↦ x ∷ rest | false ↦ rest ]) e
+
+-- whether some number passes a test, looked for from x up to n
+module _ (p : ℕ → Bool) (n x : ℕ) where
+  any-turn : x < n → (t : Bool) → p x ≡ t → any p (upFrom x (n - x)) ≡ elim t [ true ↦ true | false ↦ any p (upFrom (x + 1) (n - (x + 1))) ]
+  any-turn h t e =
+    let step : any p (upFrom x (n - x)) ≡ elim (p x) [ true ↦ true | false ↦ any p (upFrom (x + 1) (n - (x + 1))) ] = ap (any p) (up-more n x h) in
+    step ∙ ap (λ b. elim b [ true ↦ true | false ↦ any p (upFrom (x + 1) (n - (x + 1))) ]) e
+
+  pub any-here : x < n → p x ≡ true → any p (upFrom x (n - x)) ≡ true
+  any-here h e = any-turn h true e
+
+  pub any-more : x < n → p x ≡ false → any p (upFrom x (n - x)) ≡ any p (upFrom (x + 1) (n - (x + 1)))
+  any-more h e = any-turn h false e
+
+  pub any-done : n ≤ x → any p (upFrom x (n - x)) ≡ false
+  any-done h = ap (any p) (up-done n x h)
+
+-- a function of what is left of two lists that are gone through side by side
+pub at-drops-more : {X Y Z : Type 0} (F : List X → List Y → Z) (xs : List X) (ys : List Y) (i : ℕ) (d : X) (e : Y) → i < length xs → i < length ys
+  → F (drop i xs) (drop i ys) ≡ F (getD xs i d ∷ drop (i + 1) xs) (getD ys i e ∷ drop (i + 1) ys)
+at-drops-more F xs ys i d e h k = ap₂ F (drop-more xs i d h) (drop-more ys i e k)

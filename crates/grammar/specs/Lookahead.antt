@@ -1,12 +1,12 @@
 -- Lookahead policies, and expansion by the lookaheads that they give.
-use mathlib.Core.Bool.{Bool, true, false, not}
-use mathlib.Core.List.{List, [], _∷_}
-use Prim.Native.Nat.{ℕ, zero, suc, _+_}
+use mathlib.Core.Bool.{Bool, true, false, not, _&&_}
+use mathlib.Core.List.{List, [], _∷_, map}
+use Prim.Native.Nat.{ℕ, zero, suc}
 use lib.Dec.{eqb, leb}
 use lib.ListN.{getD, length}
 use Rattle.book.specs.Rules.{Production}
 use Rattle.book.specs.Symbols.{firstNonterminal}
-use Rattle.grammar.specs.Sets.{Flags, has, insert, upFrom, codes, any, keep}
+use Rattle.grammar.specs.Sets.{Flags, has, insert, union, upFrom, codes, any, keep}
 use Rattle.grammar.specs.Numbered.{lineAt, first}
 use Rattle.grammar.specs.Relations.{Relations}
 use Rattle.grammar.specs.Items.{Items, reads, completeIn}
@@ -32,24 +32,30 @@ abbrev pub inLookahead : Look → ℕ → ℕ → Bool
 inLookahead look zero x = eqb x 0
 inLookahead look (suc r) x = look (suc r) x
 
--- how many of these complete rules have x in their lookahead
-abbrev pub one : Bool → ℕ
-one true = 1
-one false = 0
+-- the lookahead of a complete rule
+abbrev pub lookaheadOf : Look → ℕ → Flags
+lookaheadOf look r = map (inLookahead look r) codes
 
-abbrev pub looking : Look → List ℕ → ℕ → ℕ
-looking look [] x = 0
-looking look (r ∷ rs) x = one (inLookahead look r x) + looking look rs x
+-- whether two sets have a symbol in common
+abbrev pub meets : Flags → Flags → Bool
+meets s t = any (λ x. has s x && has t x) codes
+
+-- whether some set meets one before it
+abbrev pub overlap : Flags → List Flags → Bool
+overlap seen [] = false
+overlap seen (t ∷ ts) = elim (meets seen t) [ true ↦ true | false ↦ overlap (union seen t) ts ]
 
 -- whether two actions apply somewhere, among these reads and the lookaheads of these complete rules
 abbrev pub conflicting : Look → Flags → List ℕ → Bool
-conflicting look read complete = any (λ x. leb 2 (one (has read x) + looking look complete x)) codes
+conflicting look read complete = overlap read (map (lookaheadOf look) complete)
 
--- SLR where that is adequate: where SLR lookaheads give the closed set no conflict among its own reads and lookaheads;
--- elsewhere as the policy below
+-- SLR where that is adequate: where SLR lookaheads give the closed set no conflict among its own reads and lookaheads,
+-- that of the outer rule among them; elsewhere as the policy below
+abbrev pub slrConflicting : Relations → Items → Bool
+slrConflicting rel items = conflicting (slr rel items) (reads (rel .lines) items) (completeIn (rel .lines) items)
+
 abbrev pub slrIfAdequate : Policy → Policy
-slrIfAdequate below rel items =
-    elim (conflicting (slr rel items) (reads (rel .lines) items) (completeIn (rel .lines) items)) [ true ↦ below rel items | false ↦ slr rel items ]
+slrIfAdequate below rel items = elim (slrConflicting rel items) [ true ↦ below rel items | false ↦ slr rel items ]
 
 abbrev pub lslr : Policy
 lslr = slrIfAdequate leftmostFollow

@@ -3,15 +3,18 @@ ghost use mathlib.Core.List.{[], map};
 ghost use mathlib.Core.Path.{_≡_};
 ghost use Rattle.book.specs.Held.{productionsOf};
 ghost use Rattle.grammar.specs.Laws.{Lawful};
-ghost use Rattle.grammar.specs.Lookahead.{Policy, slr, leftmostFollow, slrIfAdequate};
+ghost use Rattle.grammar.specs.Lookahead.{Policy, slr, leftmostFollow, lookaheadOf, meets, slrConflicting, slrIfAdequate};
 ghost use Rattle.grammar.specs.Relating.{relatedBy};
 ghost use Rattle.grammar.specs.Sets.{has, codes};
 ghost use lib.ListN.{getD};
 use book::rules::Rule;
 use crate::items::DotRow;
+use crate::items::is_complete;
 use crate::items::left_of;
+use crate::items::reads;
 use crate::relations::RelationSets;
 use crate::relations::SymbolTable;
+use crate::relations::unite;
 use crate::sets::SYMBOLS;
 use crate::sets::SymbolSet;
 
@@ -64,3 +67,63 @@ pub impl Lookahead for LeftmostFollow as LeftmostFollowLookahead {
         row_of(&sets.leftmosts, left_of(rules, number))
     }
 }
+
+// Whether two sets have a symbol in common.
+fn meet(one: &SymbolSet, other: &SymbolSet) -> bool
+    ensures { λ r. ⌜ r ≡ meets (now (one .entry)) (now (other .entry)) ⌝ }
+{
+    for x in 0..SYMBOLS {
+        if one[x] & other[x] {
+            return true;
+        }
+    }
+    false
+}
+
+// The SLR lookahead of a complete rule; that of the outer rule is the end mark alone.
+fn slr_lookahead(sets: &RelationSets, rules: &[Rule], closed: &[DotRow], number: usize) -> SymbolSet
+    ensures { λ r. ⌜ r ≡ lookaheadOf (slr (relatedBy (now (sets .entry)) (productionsOf (now (rules .entry)))) (now (closed .entry))) number ⌝ }
+{
+    if number == 0 {
+        let mut end = [false; SYMBOLS];
+        end[0] = true;
+        return end;
+    }
+    Slr.lookahead(sets, rules, closed, number)
+}
+
+// Whether SLR lookaheads give a closed set a conflict among its own reads and lookaheads.
+fn is_conflicting(sets: &RelationSets, rules: &[Rule], closed: &[DotRow]) -> bool
+    ensures { λ r. ⌜ r ≡ slrConflicting (relatedBy (now (sets .entry)) (productionsOf (now (rules .entry)))) (now (closed .entry)) ⌝ }
+{
+    let mut seen = reads(rules, closed);
+    for number in 0..=rules.len() {
+        if is_complete(rules, closed, number) {
+            let lookahead = slr_lookahead(sets, rules, closed, number);
+            if meet(&seen, &lookahead) {
+                return true;
+            }
+            unite(&mut seen, &lookahead);
+        }
+    }
+    false
+}
+
+// SLR where that is adequate; elsewhere the policy below.
+#[derive(Clone, Copy)]
+pub struct SlrIfAdequate<L> {
+    pub below: L,
+}
+
+pub impl<L: Lookahead> Lookahead for SlrIfAdequate<L> as SlrIfAdequateLookahead {
+    ghost policy = { λ e. slrIfAdequate (L·Lookahead .policy (e .below)) };
+
+    fn lookahead(&self, sets: &RelationSets, rules: &[Rule], closed: &[DotRow], number: usize) -> SymbolSet {
+        if is_conflicting(sets, rules, closed) {
+            return self.below.lookahead(sets, rules, closed, number);
+        }
+        Slr.lookahead(sets, rules, closed, number)
+    }
+}
+
+pub type Lslr = SlrIfAdequate<LeftmostFollow>;

@@ -113,7 +113,7 @@ fn leftmosts(rights: &SymbolTable, rules: &[Rule]) -> SymbolTable
 }
 
 // Puts all symbols of another set in.
-fn unite(set: &mut SymbolSet, other: &SymbolSet)
+pub(crate) fn unite(set: &mut SymbolSet, other: &SymbolSet)
     ensures { λ _. ⌜ now (set .exit) ≡ union (now (set .entry)) (now (other .entry)) ⌝ }
 {
     for x in 0..SYMBOLS {
