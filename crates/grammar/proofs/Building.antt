@@ -129,6 +129,15 @@ module _ {A : Type 0} where
   grant-from None true None rows given e = (refl, refl, refl, cc)
   grant-from None false o rows given e = clash (cc)
 
+  seven-from : (u : Option ℕ) (c : Bool) (o : Option (ℕ × ℕ)) (rows : A) (x : ℕ) → answer u c o rows ≡ refused (no 7 (x ∷ [])) → u ≡ Some x
+  seven-from (Some y) c o rows x e = let f : y ≡ x = cc in cc
+  seven-from None true (Some p) rows x e = clash (cc)
+  seven-from None true None rows x e = clash (cc)
+  seven-from None false o rows x e = clash (cc)
+
+  seven-to : (u : Option ℕ) (c : Bool) (o : Option (ℕ × ℕ)) (rows : A) (x : ℕ) → u ≡ Some x → answer u c o rows ≡ refused (no 7 (x ∷ []))
+  seven-to u c o rows x e = ap (λ v. answer v c o rows) e
+
   eight-from : (u : Option ℕ) (c : Bool) (o : Option (ℕ × ℕ)) (rows : A) → answer u c o rows ≡ refused (no 8 []) → (u ≡ None) × (c ≡ false)
   eight-from (Some x) c o rows e = clash (cc)
   eight-from None true (Some p) rows e = clash (cc)
@@ -292,4 +301,14 @@ module _ (closing-means : Closing-means) (reads-mean : Reads-mean) (expansion-me
         ; lower-symbol = λ y a k. symbol y a (k .one, k .other, k .apart, k .first, k .second) }
 
   pub build-means : Build-means
-  build-means rules bounded policy = (granted-means rules bounded policy, λ e. eight-exactly rules policy .0 e .1, nine-means rules bounded policy)
+  build-means rules bounded policy =
+      let ks = kernelsOf policy (relationsOf rules) in
+      let u = uselessIn rules in
+      let c = leb (length ks) mostStates in
+      let o = conflictFrom 0 (table rules policy ks) in
+      record
+        { grants = granted-means rules bounded policy
+        ; useless = λ x. (seven-from u c o (table rules policy ks) x, seven-to u c o (table rules policy ks) x)
+        ; many = eight-exactly rules policy
+        ; useful = λ s x e. (let (a, b, d) = nine-from u c o (table rules policy ks) s x e in (a, leb-true (length ks) mostStates b))
+        ; clashes = nine-means rules bounded policy }

@@ -23,3 +23,4 @@ pub mod Equalling
 pub mod Exploring
 pub mod Choosing
 pub mod Building
+pub mod Meanings

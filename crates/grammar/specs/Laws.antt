@@ -9,7 +9,7 @@ use Rattle.std.specs.declared.option.Option.{Option}
 use Rattle.std.specs.declared.option.Option.the-variants.{Some, None}
 use Rattle.book.specs.Answers.{granted, refused, no}
 use Rattle.book.specs.Rules.{Production, allBounded}
-use Rattle.grammar.specs.Sets.{has, symbolCount}
+use Rattle.grammar.specs.Sets.{Flags, has, symbolCount}
 use Rattle.grammar.specs.Numbered.{numbered, first, final}
 use Rattle.grammar.specs.Relations.{Relations, corners, relationsOf}
 use Rattle.grammar.specs.Useful.{reachedIn, yieldingIn, uselessIn}
@@ -21,19 +21,27 @@ use Rattle.grammar.specs.Meaning.{ruleOf, InBook, LeftCorner, RightCorner, Lef
 
 -- Corners and followers.
 
+-- a table of symbols has in the row of each x exactly the z that are related to x
+abbrev pub Tells : List Flags → (ℕ → ℕ → Type 0) → Type 0
+Tells table R = (x z : ℕ) → x < symbolCount → (has (getD table x []) z ≡ true) ↔ R x z
+
 abbrev pub Left-corners-mean : Type 0
-Left-corners-mean = (rules : List Production) → allBounded rules ≡ true → (x z : ℕ) → x < symbolCount → (has (getD (corners first rules) x []) z ≡ true) ↔ LeftCorner rules z x
+Left-corners-mean = (rules : List Production) → allBounded rules ≡ true → Tells (corners first rules) (λ x z. LeftCorner rules z x)
 
 abbrev pub Right-corners-mean : Type 0
-Right-corners-mean = (rules : List Production) → allBounded rules ≡ true → (x z : ℕ) → x < symbolCount → (has (getD (corners final rules) x []) z ≡ true) ↔ RightCorner rules z x
+Right-corners-mean = (rules : List Production) → allBounded rules ≡ true → Tells (corners final rules) (λ x z. RightCorner rules z x)
 
 abbrev pub Leftmost-followers-mean : Type 0
-Leftmost-followers-mean = (rules : List Production) → allBounded rules ≡ true → (a y : ℕ) → a < symbolCount
-  → (has (getD (relationsOf rules .leftmosts) a []) y ≡ true) ↔ LeftmostFollower rules a y
+Leftmost-followers-mean = (rules : List Production) → allBounded rules ≡ true → Tells (relationsOf rules .leftmosts) (LeftmostFollower rules)
 
 abbrev pub Followers-mean : Type 0
-Followers-mean = (rules : List Production) → allBounded rules ≡ true → (a z : ℕ) → a < symbolCount
-  → (has (getD (relationsOf rules .followers) a []) z ≡ true) ↔ Follower rules a z
+Followers-mean = (rules : List Production) → allBounded rules ≡ true → Tells (relationsOf rules .followers) (Follower rules)
+
+-- what the relations of a book tell
+pub record Relations-tell (rules : List Production) (rel : Relations) : Type 0 where
+  pub lefts : Tells (rel .lefts) (λ x z. LeftCorner rules z x)
+  pub leftmosts : Tells (rel .leftmosts) (LeftmostFollower rules)
+  pub followers : Tells (rel .followers) (Follower rules)
 
 -- Useful symbols.
 
@@ -149,9 +157,14 @@ pub record Lowest-conflict (rules : List Production) (policy : Policy) (s x : �
   pub lower-state : (t y : ℕ) → t < s → y < symbolCount → Conflict rules policy t y → ⊥
   pub lower-symbol : (y : ℕ) → y < x → Conflict rules policy s y → ⊥
 
--- what each answer of a build says
+-- What each answer of a build says. Refusal 7 names the lowest useless code, exactly if there is one; 8 is the answer exactly if there is none
+-- and there are too many states; 9 names the lowest conflict where neither is the case.
+pub record Build-tells (rules : List Production) (policy : Policy) : Type 0 where
+  pub grants : (rows : List (List Act)) → buildSays policy rules ≡ granted rows → Tables-mean rules policy rows
+  pub useless : (x : ℕ) → (buildSays policy rules ≡ refused (no 7 (x ∷ []))) ↔ (uselessIn rules ≡ Some x)
+  pub many : (buildSays policy rules ≡ refused (no 8 [])) ↔ ((uselessIn rules ≡ None) × (mostStates < length (kernelsOf policy (relationsOf rules))))
+  pub useful : (s x : ℕ) → buildSays policy rules ≡ refused (no 9 (s ∷ x ∷ [])) → (uselessIn rules ≡ None) × (length (kernelsOf policy (relationsOf rules)) ≤ mostStates)
+  pub clashes : (s x : ℕ) → buildSays policy rules ≡ refused (no 9 (s ∷ x ∷ [])) → Lowest-conflict rules policy s x
+
 abbrev pub Build-means : Type 0
-Build-means = (rules : List Production) → allBounded rules ≡ true → (policy : Policy)
-  → ((rows : List (List Act)) → buildSays policy rules ≡ granted rows → Tables-mean rules policy rows)
-    × (buildSays policy rules ≡ refused (no 8 []) → mostStates < length (kernelsOf policy (relationsOf rules)))
-    × ((s x : ℕ) → buildSays policy rules ≡ refused (no 9 (s ∷ x ∷ [])) → Lowest-conflict rules policy s x)
+Build-means = (rules : List Production) → allBounded rules ≡ true → (policy : Policy) → Build-tells rules policy

@@ -5,4 +5,4 @@ pub mod useful;
 pub mod relations;
 pub mod items;
 pub mod lookaheads;
-pub mod cases;
+pub mod laws;

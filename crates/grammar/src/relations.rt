@@ -4,6 +4,8 @@ ghost use mathlib.Core.Path.{_≡_};
 ghost use lib.ListN.{getD, drop};
 ghost use Rattle.book.specs.Held.{productionOf, productionsOf};
 ghost use Rattle.grammar.specs.Ends.{endOf};
+ghost use Rattle.grammar.specs.Laws.{Tells, Relations-tell};
+ghost use Rattle.grammar.specs.Meaning.{Corner};
 ghost use Rattle.grammar.specs.Relating.{relatedBy};
 ghost use Rattle.grammar.specs.Relations.{cornerStep, cornersOf, corners, behind, leftmostOf, followersOf, relationsOf};
 ghost use Rattle.grammar.specs.Sets.{has, codes, union};
@@ -68,7 +70,8 @@ fn corners_of(rules: &[Rule], end: End, symbol: u8) -> SymbolSet
 
 // The corners of every symbol.
 pub fn corners(rules: &[Rule], end: End) -> SymbolTable
-    ensures { λ r. ⌜ r ≡ corners (endOf end) (productionsOf (now (rules .entry))) ⌝ }
+    ensures equal { λ r. ⌜ r ≡ corners (endOf end) (productionsOf (now (rules .entry))) ⌝ }
+    ensures tell { λ r. ⌜ Tells r (λ x z. Corner (endOf end) (productionsOf (now (rules .entry))) z x) ⌝ }
 {
     let mut all = [[false; SYMBOLS]; SYMBOLS];
     for x in 0..SYMBOLS {
@@ -154,7 +157,8 @@ pub struct RelationSets {
 
 impl RelationSets {
     pub fn of(rules: &[Rule]) -> RelationSets
-        ensures { λ r. ⌜ relatedBy r (productionsOf (now (rules .entry))) ≡ relationsOf (productionsOf (now (rules .entry))) ⌝ }
+        ensures equal { λ r. ⌜ relatedBy r (productionsOf (now (rules .entry))) ≡ relationsOf (productionsOf (now (rules .entry))) ⌝ }
+        ensures tell { λ r. ⌜ Relations-tell (productionsOf (now (rules .entry))) (relatedBy r (productionsOf (now (rules .entry)))) ⌝ }
     {
         let lefts = corners(rules, End::First);
         let rights = corners(rules, End::Last);

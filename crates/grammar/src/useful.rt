@@ -2,6 +2,7 @@
 ghost use mathlib.Core.Bool.{false};
 ghost use mathlib.Core.Path.{_≡_};
 ghost use Rattle.book.specs.Held.{productionsOf};
+ghost use Rattle.grammar.specs.Laws.{Lowest-useless};
 ghost use Rattle.grammar.specs.Sets.{has, every};
 ghost use Rattle.grammar.specs.Useful.{insertAll, reachStep, yieldStep, reachedIn, yieldingIn, occurringIn, terminals, uselessIn};
 use book::rules::Rule;
@@ -110,7 +111,8 @@ fn occurring(rules: &[Rule]) -> SymbolSet
 
 // The lowest code that occurs and is not useful.
 pub fn useless(rules: &[Rule]) -> Option<u8>
-    ensures { λ r. ⌜ r ≡ uselessIn (productionsOf (now (rules .entry))) ⌝ }
+    ensures equal { λ r. ⌜ r ≡ uselessIn (productionsOf (now (rules .entry))) ⌝ }
+    ensures tell { λ r. ⌜ Lowest-useless (productionsOf (now (rules .entry))) r ⌝ }
 {
     let occurring = occurring(rules);
     let reached = reached(rules);

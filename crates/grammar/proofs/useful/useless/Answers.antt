@@ -3,6 +3,7 @@ use Rattle.book.specs.Held.{productionsOf}
 use Rattle.grammar.specs.Sets.{codes, symbolCount}
 use Rattle.grammar.specs.Useful.{lowest, isUseless, occurringIn, reachedIn, uselessIn}
 use Rattle.grammar.proofs.Turns.{lowest-here, lowest-more, lowest-done}
+use Rattle.grammar.proofs.Meanings.{useless-tell}
 use Rattle.grammar.proofs.useful.useless.Needs as need
 use Rattle.grammar.proofs.useful.useless.Needs.{After-yielding-yielding}
 
@@ -18,7 +19,8 @@ defined c =
 pub returns-then-occurring-x : need.returns-then-occurring-x
 returns-then-occurring-x c =
     let p = isUseless (c .occurring-occurring .result) (c .reached-reached .result) (c .yielding-yielding .result) in
-    sym (lowest-here p symbolCount (c .loop-x .x) (c .loop-x-test .taken) (c .if-occurring-x .taken)) ∙ c .loop-x .inv ∙ defined (need.at·returns-then-occurring-x c .After-yielding-yielding)
+    let equal = sym (lowest-here p symbolCount (c .loop-x .x) (c .loop-x-test .taken) (c .if-occurring-x .taken)) ∙ c .loop-x .inv ∙ defined (need.at·returns-then-occurring-x c .After-yielding-yielding) in
+    record { equal = equal; tell = useless-tell (c .args .rules .now) _ equal }
 
 pub loop-x-again : need.loop-x-again
 loop-x-again c =
@@ -28,4 +30,5 @@ loop-x-again c =
 pub returns : need.returns
 returns c =
     let p = isUseless (c .occurring-occurring .result) (c .reached-reached .result) (c .yielding-yielding .result) in
-    sym (lowest-done p symbolCount (c .loop-x .x) (c .loop-x-test .left)) ∙ c .loop-x .inv ∙ defined (need.at·returns c .After-yielding-yielding)
+    let equal = sym (lowest-done p symbolCount (c .loop-x .x) (c .loop-x-test .left)) ∙ c .loop-x .inv ∙ defined (need.at·returns c .After-yielding-yielding) in
+    record { equal = equal; tell = useless-tell (c .args .rules .now) _ equal }

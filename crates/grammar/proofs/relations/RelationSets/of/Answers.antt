@@ -4,6 +4,7 @@ use Rattle.book.specs.Held.{productionsOf}
 use Rattle.grammar.specs.Numbered.{numbered}
 use Rattle.grammar.specs.Relations.{Relations, withFollowers, withLeftmosts}
 use Rattle.grammar.specs.Sets.{Flags}
+use Rattle.grammar.proofs.Meanings.{relations-tell}
 use Rattle.grammar.proofs.relations.RelationSets.of.Needs as need
 
 pub returns : need.returns
@@ -12,6 +13,8 @@ returns c =
     let lefts = c .corners-lefts .result in
     let leftmosts = c .leftmosts-leftmosts .result in
     let made : List Flags → Relations = λ f. record { lines = numbered rules; lefts = lefts; leftmosts = leftmosts; followers = f } in
-    ap made (c .followers-followers .ensures)
-    ∙ ap (withFollowers rules lefts) (c .leftmosts-leftmosts .ensures)
-    ∙ ap₂ (withLeftmosts rules) (c .corners-lefts .ensures) (c .corners-rights .ensures)
+    let equal =
+      ap made (c .followers-followers .ensures)
+      ∙ ap (withFollowers rules lefts) (c .leftmosts-leftmosts .ensures)
+      ∙ ap₂ (withLeftmosts rules) (c .corners-lefts .ensures .equal) (c .corners-rights .ensures .equal) in
+    record { equal = equal; tell = relations-tell (c .args .rules .now) _ equal }

@@ -1,5 +1,5 @@
 use mathlib.Core.Path.{refl}
-use Rattle.grammar.proofs.cases.cases_hold.Needs as need
+use Rattle.grammar.proofs.laws.cases_hold.Needs as need
 
 pub returns : need.returns
 returns c = refl
