@@ -6,3 +6,5 @@ pub mod relations;
 pub mod items;
 pub mod lookaheads;
 pub mod laws;
+#[cfg(test)]
+mod tests;
