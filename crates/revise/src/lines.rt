@@ -16,7 +16,7 @@ use std::alloc::AllocError;
 use std::alloc::Global;
 
 // The two sides of a rule, as in `41 -> 42 2`.
-pub fn sides(heap: Global, left: u8, right: &[u8]) -> Result<String, AllocError>
+pub(crate) fn sides(heap: Global, left: u8, right: &[u8]) -> Result<String, AllocError>
     ensures { λ r. ⌜ made r (λ s. string-bytes s ≡ sidesText (left ⟶ now (right .entry))) ⌝ }
 {
     let mut text = format!(heap, "{left} ->")?;
@@ -29,7 +29,7 @@ pub fn sides(heap: Global, left: u8, right: &[u8]) -> Result<String, AllocError>
 }
 
 // The sides of the rule of a number, or no text where there is none.
-pub fn sides_at(heap: Global, book: &Book, number: usize) -> Result<String, AllocError>
+pub(crate) fn sides_at(heap: Global, book: &Book, number: usize) -> Result<String, AllocError>
     ensures { λ r. ⌜ made r (λ s. string-bytes s ≡ sidesAt (rulesOf (now (book .entry))) number) ⌝ }
 {
     let rules = book.rules();
@@ -57,7 +57,7 @@ pub fn listing(heap: Global, book: &Book) -> Result<String, AllocError>
 }
 
 // A refusal is told by its number and in words.
-pub fn enter_refusal(heap: Global, error: EnterError) -> Result<String, AllocError>
+pub(crate) fn enter_refusal(heap: Global, error: EnterError) -> Result<String, AllocError>
     ensures { λ r. ⌜ made r (λ s. string-bytes s ≡ refusalText (enterRefusal error)) ⌝ }
 {
     match error {
@@ -69,7 +69,7 @@ pub fn enter_refusal(heap: Global, error: EnterError) -> Result<String, AllocErr
     }
 }
 
-pub fn strike_refusal(heap: Global, error: StrikeError) -> Result<String, AllocError>
+pub(crate) fn strike_refusal(heap: Global, error: StrikeError) -> Result<String, AllocError>
     ensures { λ r. ⌜ made r (λ s. string-bytes s ≡ refusalText (strikeRefusal error)) ⌝ }
 {
     match error {
@@ -102,7 +102,7 @@ fn load_refusal(heap: Global, error: LoadError) -> Result<String, AllocError>
 }
 
 // What came of a load, after which the book has so many rules.
-pub fn load_line(heap: Global, name: &str, outcome: &Result<(), LoadError>, count: usize) -> Result<String, AllocError>
+pub(crate) fn load_line(heap: Global, name: &str, outcome: &Result<(), LoadError>, count: usize) -> Result<String, AllocError>
     ensures { λ r. ⌜ made r (λ s. string-bytes s ≡ loadLine (now (name .entry)) (now (outcome .entry)) count) ⌝ }
 {
     match outcome {
@@ -115,7 +115,7 @@ pub fn load_line(heap: Global, name: &str, outcome: &Result<(), LoadError>, coun
 }
 
 // What came of a save.
-pub fn save_line(heap: Global, name: &str, outcome: &Result<usize, SaveError>) -> Result<String, AllocError>
+pub(crate) fn save_line(heap: Global, name: &str, outcome: &Result<usize, SaveError>) -> Result<String, AllocError>
     ensures { λ r. ⌜ made r (λ s. string-bytes s ≡ saveLine (now (name .entry)) (said saveRefusal (now (outcome .entry)))) ⌝ }
 {
     match outcome {
