@@ -23,10 +23,11 @@ same-swap p q = ap₂ _&&_ (eqb-swap (p .lhs) (q .lhs)) (bytes-swap (p .rhs) (q 
   where
     eqb-swap : (a b : ℕ) → eqb a b ≡ eqb b a
     eqb-swap a b = same-from-decides (eqb a b) (eqb b a) (decides-eqb a b) ((λ e. sym (eqb-true b a e)), (λ e. eq-eqb b a (sym e)))
+
     bytes-swap : (xs ys : List ℕ) → sameBytes xs ys ≡ sameBytes ys xs
     bytes-swap xs ys =
-      let d = sameBytes-decides ys xs in
-      same-from-decides (sameBytes xs ys) (sameBytes ys xs) (sameBytes-decides xs ys) ((λ e. sym (d .0 e)), (λ e. d .1 (sym e)))
+        let d = sameBytes-decides ys xs in
+        same-from-decides (sameBytes xs ys) (sameBytes ys xs) (sameBytes-decides xs ys) ((λ e. sym (d .0 e)), (λ e. d .1 (sym e)))
 
 -- Parts of a list of rules.
 
@@ -61,7 +62,7 @@ distinct-push (r ∷ ps) p d h =
     let here = and-parts (not (holds ps r)) (distinct ps) d in
     let new = or-parts (sameRule r p) (holds ps p) h in
     let none : holds (ps ++ p ∷ []) r ≡ false =
-      holds-append ps (p ∷ []) r ∙ or-from (holds ps r) (holds (p ∷ []) r) (not-true (holds ps r) (here .0)) (or-from (sameRule p r) false (same-swap p r ∙ new .0) refl) in
+    holds-append ps (p ∷ []) r ∙ or-from (holds ps r) (holds (p ∷ []) r) (not-true (holds ps r) (here .0)) (or-from (sameRule p r) false (same-swap p r ∙ new .0) refl) in
     and-from _ _ (not-from-false (holds (ps ++ p ∷ []) r) none) (distinct-push ps p (here .1) (new .1))
 
 -- Well-formed rules, by their three parts.
@@ -94,8 +95,9 @@ enter-granted ps p e = full (leb mostRules (length ps)) refl e
         twice : (t : Bool) → holds ps p ≡ t → refuseIf t (no 5 []) (done) ≡ done → holds ps p ≡ false
         twice true f e = let z : _≡_ {A = ℕ} 0 1 = cc in absurd (omega arith)
         twice false f e = f
+
     full : (t : Bool) → leb mostRules (length ps) ≡ t → refuseIf t (no 1 []) (andThen (ruleSays p) (λ q. refuseIf (holds ps q) (no 5 []) (done))) ≡ done
-      → (length ps < mostRules) × (isBounded p ≡ true) × (holds ps p ≡ false)
+        → (length ps < mostRules) × (isBounded p ≡ true) × (holds ps p ≡ false)
     full true f e = let z : _≡_ {A = ℕ} 0 1 = cc in absurd (omega arith)
     full false f e = let r = rest (ruleSays p) refl e in (leb-false mostRules (length ps) f, r .0, r .1)
 
@@ -162,5 +164,5 @@ struck-well-formed ps k w = go (strikeSays ps k) refl
     go : (a : Answer (Unit {0})) → strikeSays ps k ≡ a → isWellFormed (leaves a (λ _. take (k - 1) ps ++ drop k ps) ps) ≡ true
     go (refused n) e = w
     go (granted tt) e =
-      let r = strike-granted ps k e in
-      without-well-formed (take (k - 1) ps) (getD ps (k - 1) (0 ⟶ [])) (drop k ps) (ap isWellFormed (sym (around ps k (r .0) (r .1))) ∙ w)
+        let r = strike-granted ps k e in
+        without-well-formed (take (k - 1) ps) (getD ps (k - 1) (0 ⟶ [])) (drop k ps) (ap isWellFormed (sym (around ps k (r .0) (r .1))) ∙ w)

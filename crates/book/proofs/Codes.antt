@@ -60,7 +60,7 @@ pub granted-bounded : (p q : Production) → ruleSays p ≡ granted q → (isBou
 granted-bounded p q e = go (isNonterminal (p .lhs)) (within 1 longestRight (length (p .rhs))) (firstBad (p .rhs)) refl refl refl e
   where
     go : (a b : Bool) (o : Option ℕ) → isNonterminal (p .lhs) ≡ a → within 1 longestRight (length (p .rhs)) ≡ b → firstBad (p .rhs) ≡ o
-      → refuseIf (not a) (no 2 []) (refuseIf (not b) (no 3 []) (codesSay p o)) ≡ granted q → (isBounded p ≡ true) × (q ≡ p)
+        → refuseIf (not a) (no 2 []) (refuseIf (not b) (no 3 []) (codesSay p o)) ≡ granted q → (isBounded p ≡ true) × (q ≡ p)
     go false b o f g h e = let z : _≡_ {A = ℕ} 0 1 = cc in absurd (omega arith)
     go true false o f g h e = let z : _≡_ {A = ℕ} 0 1 = cc in absurd (omega arith)
     go true true (Some i) f g h e = let z : _≡_ {A = ℕ} 0 1 = cc in absurd (omega arith)

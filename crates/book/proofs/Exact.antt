@@ -69,9 +69,10 @@ holds-at (q ∷ ps) p (suc j) h e = or-right (sameRule q p) (holds ps p) (holds-
 holds-some : (ps : List Production) (p : Production) → holds ps p ≡ true → (j : ℕ) × (j < length ps) × (p ≡ ruleIn ps j)
 holds-some [] p h = absurd (both-ways false refl h)
 holds-some (q ∷ ps) p h =
-    elim (or-cases (sameRule q p) (holds ps p) h)
-    [ inl s ↦ (0, omega arith, sym (same-equal q p s))
-    | inr t ↦ let r = holds-some ps p t in (suc (r .0), omega (arith, r .1), r .2) ]
+    elim (or-cases (sameRule q p) (holds ps p) h) [
+      | inl s ↦ (0, omega arith, sym (same-equal q p s))
+      | inr t ↦ let r = holds-some ps p t in (suc (r .0), omega (arith, r .1), r .2)
+    ]
 
 distinct-apart : (ps : List Production) → distinct ps ≡ true → (i j : ℕ) → i < j → j < length ps → ruleIn ps i ≡ ruleIn ps j → ⊥
 distinct-apart [] d i j l h e = omega arith
@@ -89,6 +90,7 @@ apart-distinct (p ∷ ps) f = and-from _ _ (not-from-false (holds ps p) (new (ho
     new true e = let r = holds-some ps p e in absurd (f 0 (suc (r .0)) (omega arith) (omega (arith, r .1)) (r .2))
 
 pub test-is-exact : Test-is-exact
-test-is-exact rules =
-    ((λ w. record { few = few rules w; bounded = bounded-at rules (bounded rules w); apart = distinct-apart rules (apart rules w) }),
-     (λ w. well-formed rules (w .few) (bounded-from rules (w .bounded)) (apart-distinct rules (w .apart))))
+test-is-exact rules = (
+  (λ w. record { few = few rules w; bounded = bounded-at rules (bounded rules w); apart = distinct-apart rules (apart rules w) }),
+  (λ w. well-formed rules (w .few) (bounded-from rules (w .bounded)) (apart-distinct rules (w .apart))),
+)

@@ -25,8 +25,8 @@ front-granted xs n place ys e = go (ltb (length xs) n) refl e
 
 -- a record whose body is there enters its rule
 pub rule-record : (rules : List Production) (place : ℕ) (xs body rest right : List ℕ) → body ≡ drop 1 xs → rest ≡ drop 1 body → 0 < length xs → 0 < length body
-  → (getD xs 0 0 ≡ closingKind → ⊥) → 1 ≤ getD xs 0 0 → getD xs 0 0 ≤ longestRight → granted right ≡ frontSays rest (getD xs 0 0) place
-  → recordSays rules place xs ≡ ruleAt place (getD body 0 0 ⟶ right) (enterSays rules (getD body 0 0 ⟶ right))
+    → (getD xs 0 0 ≡ closingKind → ⊥) → 1 ≤ getD xs 0 0 → getD xs 0 0 ≤ longestRight → granted right ≡ frontSays rest (getD xs 0 0) place
+    → recordSays rules place xs ≡ ruleAt place (getD body 0 0 ⟶ right) (enterSays rules (getD body 0 0 ⟶ right))
 rule-record rules place [] body rest right b r some more ne low high e = absurd (omega arith)
 rule-record rules place (k ∷ []) body rest right b r some more ne low high e = absurd (omega (arith, ap length b))
 rule-record rules place (k ∷ l ∷ ws) body rest right b r some more ne low high e =
@@ -38,7 +38,7 @@ rule-record rules place (k ∷ l ∷ ws) body rest right b r some more ne low hi
 
 -- what an enter leaves is what its record leaves
 pub rule-leaves : (a : Answer (Unit {0})) (place : ℕ) (p : Production) (rules : List Production)
-  → leaves a (λ _. rules ++ p ∷ []) rules ≡ leaves (ruleAt place p a) (elim [ None ↦ rules | Some q ↦ rules ++ q ∷ [] ]) rules
+    → leaves a (λ _. rules ++ p ∷ []) rules ≡ leaves (ruleAt place p a) (elim [ None ↦ rules | Some q ↦ rules ++ q ∷ [] ]) rules
 rule-leaves (granted x) place p rules = refl
 rule-leaves (refused (no n names)) place p rules = refl
 
@@ -55,15 +55,15 @@ onward (granted None) xs rules place = granted rules
 onward (granted (Some w)) xs rules place = loadFrom (drop w xs) 0 rules (place + w)
 
 pub turn : (xs : List ℕ) (rules : List Production) (place : ℕ)
-  → loadFrom xs 0 rules place ≡ onward (andThen (recordSays rules place xs) (λ o. granted (mapped width o))) xs (recordLeaves rules place xs) place
+    → loadFrom xs 0 rules place ≡ onward (andThen (recordSays rules place xs) (λ o. granted (mapped width o))) xs (recordLeaves rules place xs) place
 turn [] rules place = refl
 turn (b ∷ bytes) rules place = go (recordSays rules place (b ∷ bytes))
   where
     go : (a : Answer (Option Production))
-      → andThen a (elim [ None ↦ granted rules | Some p ↦ loadFrom bytes (width p - 1) (rules ++ p ∷ []) (place + width p) ])
-      ≡ onward (andThen a (λ o. granted (mapped width o))) (b ∷ bytes) (leaves a (elim [ None ↦ rules | Some p ↦ rules ++ p ∷ [] ]) rules) place
+        → andThen a (elim [ None ↦ granted rules | Some p ↦ loadFrom bytes (width p - 1) (rules ++ p ∷ []) (place + width p) ])
+        ≡ onward (andThen a (λ o. granted (mapped width o))) (b ∷ bytes) (leaves a (elim [ None ↦ rules | Some p ↦ rules ++ p ∷ [] ]) rules) place
     go (refused n) = refl
     go (granted None) = refl
     go (granted (Some p)) =
-      let q : width p ≡ suc (width p - 1) = omega arith in
-      skips bytes (width p - 1) (rules ++ p ∷ []) (place + width p) ∙ ap (λ k. loadFrom (drop k (b ∷ bytes)) 0 (rules ++ p ∷ []) (place + width p)) (sym q)
+        let q : width p ≡ suc (width p - 1) = omega arith in
+        skips bytes (width p - 1) (rules ++ p ∷ []) (place + width p) ∙ ap (λ k. loadFrom (drop k (b ∷ bytes)) 0 (rules ++ p ∷ []) (place + width p)) (sym q)

@@ -35,7 +35,7 @@ back-on xs ys a b h e =
     ap (λ k. drop k xs) (sym q) ∙ sym (drop-drop (b - a) a xs) ∙ ap (drop (b - a)) e ∙ drop-drop (b - a) a ys ∙ ap (λ k. drop k ys) q
 
 pub length-records-more : (rs : List Rule) (i : ℕ) (r : Rule) → i < length rs → r ≡ getD rs i r
-  → length (recordsOf (take (i + 1) rs)) ≡ length (recordsOf (take i rs)) + (2 + length (productionOf r .rhs))
+    → length (recordsOf (take (i + 1) rs)) ≡ length (recordsOf (take i rs)) + (2 + length (productionOf r .rhs))
 length-records-more rs i r h e =
     ap length (records-more rs i r h e) ∙ length-append (recordsOf (take i rs)) (recordOf (productionOf r)) ∙ omega arith
 
@@ -43,6 +43,6 @@ length-records-more rs i r h e =
 pub records-within : (rs : List Rule) (i : ℕ) → length (recordsOf (take i rs)) ≤ length (recordsOf rs)
 records-within rs i =
     let e : recordsOf (take i rs) ++ recordsOf (drop i rs) ≡ recordsOf rs =
-      sym (joined-append (productionsOf (take i rs)) (productionsOf (drop i rs)))
-      ∙ ap (joined recordOf) (sym (map-append productionOf (take i rs) (drop i rs)) ∙ ap productionsOf (take-append-drop i rs)) in
+    sym (joined-append (productionsOf (take i rs)) (productionsOf (drop i rs)))
+    ∙ ap (joined recordOf) (sym (map-append productionOf (take i rs) (drop i rs)) ∙ ap productionsOf (take-append-drop i rs)) in
     omega (arith, simp length-append at (ap length e))

@@ -30,8 +30,8 @@ record-read ps p place more e =
     let low = leb-true 1 (length (p .rhs)) (ends .0) in
     let high = leb-true (length (p .rhs)) longestRight (ends .1) in
     let right : granted (p .rhs) ≡ frontSays (p .rhs ++ more) (length (p .rhs)) place =
-      ap granted (sym (take-at (p .rhs) more (length (p .rhs)) refl))
-      ∙ ap (λ t. refuseIf t (no 16 (place ∷ [])) (granted (take (length (p .rhs)) (p .rhs ++ more)))) (sym (le-ltb (length (p .rhs ++ more)) (length (p .rhs)) (omega (arith, length-append (p .rhs) more)))) in
+    ap granted (sym (take-at (p .rhs) more (length (p .rhs)) refl))
+    ∙ ap (λ t. refuseIf t (no 16 (place ∷ [])) (granted (take (length (p .rhs)) (p .rhs ++ more)))) (sym (le-ltb (length (p .rhs ++ more)) (length (p .rhs)) (omega (arith, length-append (p .rhs) more)))) in
     rule-record ps place (recordOf p ++ more) (p .lhs ∷ p .rhs ++ more) (p .rhs ++ more) (p .rhs) refl refl (omega arith) (omega arith) (λ q. omega arith) low high right
     ∙ ap (ruleAt place p) e
 
@@ -40,7 +40,7 @@ closing-read ps place = ap (λ t. refuseIf (not t) (no 18 (place ∷ [])) (grant
 
 -- a file's records, one by one, after those of `ps`
 loads-on : (ps qs : List Production) (place : ℕ) → isWellFormed (ps ++ qs) ≡ true
-  → loadFrom (joined recordOf qs ++ closingKind ∷ length (ps ++ qs) ∷ []) 0 ps place ≡ granted (ps ++ qs)
+    → loadFrom (joined recordOf qs ++ closingKind ∷ length (ps ++ qs) ∷ []) 0 ps place ≡ granted (ps ++ qs)
 loads-on ps [] place w =
     let same = append-nil ps in
     ap (λ rs. loadFrom (closingKind ∷ length rs ∷ []) 0 ps place) same
@@ -86,10 +86,11 @@ tells-body ps place k (l ∷ rest) = front (ltb (length rest) k) refl
     rule : k ≤ length rest → (a : Answer (Unit {0})) → enterSays ps (l ⟶ take k rest) ≡ a → Tells ps (k ∷ l ∷ rest) (ruleAt place (l ⟶ take k rest) a)
     rule long (refused (no m names)) f = tt
     rule long (granted tt) f =
-      let size : length (take k rest) ≡ k = length-take-le k rest long in
-      (ap₂ (λ n t. n ∷ l ∷ t) (sym size) (sym (take-append-drop k rest) ∙ ap (λ n. take k rest ++ drop n rest) (sym size)), f)
+        let size : length (take k rest) ≡ k = length-take-le k rest long in
+        (ap₂ (λ n t. n ∷ l ∷ t) (sym size) (sym (take-append-drop k rest) ∙ ap (λ n. take k rest ++ drop n rest) (sym size)), f)
+
     front : (t : Bool) → ltb (length rest) k ≡ t
-      → Tells ps (k ∷ l ∷ rest) (andThen (refuseIf t (no 16 (place ∷ [])) (granted (take k rest))) (λ right. ruleAt place (l ⟶ right) (enterSays ps (l ⟶ right))))
+        → Tells ps (k ∷ l ∷ rest) (andThen (refuseIf t (no 16 (place ∷ [])) (granted (take k rest))) (λ right. ruleAt place (l ⟶ right) (enterSays ps (l ⟶ right))))
     front true f = tt
     front false f = rule (ltb-false (length rest) k f) (enterSays ps (l ⟶ take k rest)) refl
 
@@ -100,8 +101,9 @@ tells ps place (k ∷ bytes) = kind (eqb k closingKind) refl
     size : (t : Bool) → Tells ps (k ∷ bytes) (refuseIf (not t) (no 15 (place ∷ [])) (bodySays ps place k bytes))
     size false = tt
     size true = tells-body ps place k bytes
+
     kind : (t : Bool) → eqb k closingKind ≡ t
-      → Tells ps (k ∷ bytes) (cond t (closingSays ps place bytes) (refuseIf (not (within 1 longestRight k)) (no 15 (place ∷ [])) (bodySays ps place k bytes)))
+        → Tells ps (k ∷ bytes) (cond t (closingSays ps place bytes) (refuseIf (not (within 1 longestRight k)) (no 15 (place ∷ [])) (bodySays ps place k bytes)))
     kind true f = subst (λ j. Tells ps (j ∷ bytes) (closingSays ps place bytes)) (sym (eqb-true k closingKind f)) (tells-closing ps place bytes)
     kind false f = size (within 1 longestRight k)
 
@@ -110,29 +112,30 @@ never e = let z : _≡_ {A = ℕ} 0 1 = cc in absurd (omega arith)
 
 -- a load that is granted read just the records of its rules, and its rules are well-formed if those before it were
 loaded-from : (xs : List ℕ) (skip : ℕ) (ps : List Production) (place : ℕ) (rules : List Production) → loadFrom xs skip ps place ≡ granted rules
-  → (joined recordOf ps ++ drop skip xs ≡ fileOf rules) × (isWellFormed ps ≡ true → isWellFormed rules ≡ true)
+    → (joined recordOf ps ++ drop skip xs ≡ fileOf rules) × (isWellFormed ps ≡ true → isWellFormed rules ≡ true)
 loaded-from [] skip ps place rules e = never e
 loaded-from (b ∷ bytes) (suc skip) ps place rules e = loaded-from bytes skip ps place rules e
 loaded-from (b ∷ bytes) zero ps place rules e =
     go (recordSays ps place (b ∷ bytes)) (tells ps place (b ∷ bytes)) e (λ p f. loaded-from bytes (width p - 1) (ps ++ p ∷ []) (place + width p) rules f)
   where
     go : (a : Answer (Option Production)) → Tells ps (b ∷ bytes) a
-      → andThen a (elim [ None ↦ granted ps | Some p ↦ loadFrom bytes (width p - 1) (ps ++ p ∷ []) (place + width p) ]) ≡ granted rules
-      → ((p : Production) → loadFrom bytes (width p - 1) (ps ++ p ∷ []) (place + width p) ≡ granted rules
+        → andThen a (elim [ None ↦ granted ps | Some p ↦ loadFrom bytes (width p - 1) (ps ++ p ∷ []) (place + width p) ]) ≡ granted rules
+        → ((p : Production) → loadFrom bytes (width p - 1) (ps ++ p ∷ []) (place + width p) ≡ granted rules
         → (joined recordOf (ps ++ p ∷ []) ++ drop (width p - 1) bytes ≡ fileOf rules) × (isWellFormed (ps ++ p ∷ []) ≡ true → isWellFormed rules ≡ true))
-      → (joined recordOf ps ++ (b ∷ bytes) ≡ fileOf rules) × (isWellFormed ps ≡ true → isWellFormed rules ≡ true)
+        → (joined recordOf ps ++ (b ∷ bytes) ≡ fileOf rules) × (isWellFormed ps ≡ true → isWellFormed rules ≡ true)
     go (refused n) f e again = never e
     go (granted None) f e again =
-      let same : ps ≡ rules = cc in
-      (ap (λ t. joined recordOf ps ++ t) f ∙ ap fileOf same, λ w. ap isWellFormed (sym same) ∙ w)
+        let same : ps ≡ rules = cc in
+        (ap (λ t. joined recordOf ps ++ t) f ∙ ap fileOf same, λ w. ap isWellFormed (sym same) ∙ w)
     go (granted (Some p)) f e again =
-      let rest = again p e in
-      let step : width p ≡ suc (width p - 1) = omega arith in
-      (ap (λ t. joined recordOf ps ++ t) (f .0 ∙ ap (λ n. recordOf p ++ drop n (b ∷ bytes)) step)
-       ∙ sym (append-assoc (joined recordOf ps) (recordOf p) (drop (width p - 1) bytes))
-       ∙ ap (λ t. t ++ drop (width p - 1) bytes) (ap (λ t. joined recordOf ps ++ t) (sym (append-nil (recordOf p))) ∙ sym (joined-append ps (p ∷ [])))
-       ∙ rest .0,
-       λ w. rest .1 (push-well-formed ps p w (f .1)))
+        let rest = again p e in
+        let step : width p ≡ suc (width p - 1) = omega arith in (
+          ap (λ t. joined recordOf ps ++ t) (f .0 ∙ ap (λ n. recordOf p ++ drop n (b ∷ bytes)) step)
+              ∙ sym (append-assoc (joined recordOf ps) (recordOf p) (drop (width p - 1) bytes))
+              ∙ ap (λ t. t ++ drop (width p - 1) bytes) (ap (λ t. joined recordOf ps ++ t) (sym (append-nil (recordOf p))) ∙ sym (joined-append ps (p ∷ [])))
+              ∙ rest .0,
+          λ w. rest .1 (push-well-formed ps p w (f .1)),
+        )
 
 pub loaded-file : (bytes : List ℕ) (rules : List Production) → loadSays bytes ≡ granted rules → bytes ≡ fileOf rules
 loaded-file bytes rules e = loaded-from bytes 0 [] 0 rules e .0

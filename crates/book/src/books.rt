@@ -40,7 +40,10 @@ impl Book {
         ensures sound { λ r. ⌜ isWellFormed (rulesOf r) ≡ true ⌝ }
         ensures exact { λ _. ⌜ Test-is-exact ⌝ }
     {
-        Book { rules: [Rule::filler(); MOST_RULES], count: Counts { rules: 0 } }
+        Book {
+            rules: [Rule::filler(); MOST_RULES],
+            count: Counts { rules: 0 },
+        }
     }
 
     // The rules, in order of entry.

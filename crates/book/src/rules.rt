@@ -5,6 +5,7 @@ ghost use lib.ListN.{take};
 ghost use mathlib.Core.Bool.{true};
 ghost use Rattle.book.specs.Rules.{isBounded, _⟶_};
 ghost use Rattle.book.specs.Symbols.{longestRight};
+
 mod sides;
 
 // How many symbols a right side has at the most.

@@ -3,7 +3,9 @@ ghost use mathlib.Core.Path.{_≡_};
 ghost use Rattle.book.specs.Symbols.{isTerminal, isNonterminal, isSymbol};
 
 pub const LAST_TERMINAL: u8 = 40;
+
 pub const FIRST_NONTERMINAL: u8 = 41;
+
 pub const LAST_SYMBOL: u8 = 80;
 
 pub fn is_terminal(code: u8) -> bool

@@ -1,5 +1,4 @@
 // Each refusal at its edge, strikes, and round trips.
-use std::test::*;
 use crate::books::Book;
 use crate::books::StrikeError;
 use crate::books::StrikeErrorDebug;
@@ -13,6 +12,7 @@ use crate::files::SaveErrorPartialEq;
 use crate::rules::EnterError;
 use crate::rules::EnterErrorDebug;
 use crate::rules::EnterErrorPartialEq;
+use std::test::*;
 
 // The longest file: 100 rules with six right symbols each.
 const LONGEST_FILE: usize = 802;
@@ -113,9 +113,18 @@ fn wrong_files() -> Result<(), Fail> {
     let mut book = small()?;
     check_eq(book.load(&[0]), Err(LoadError::Kind(0)))?;
     check_eq(book.load(&[1, 41, 1, 8, 41, 1]), Err(LoadError::Kind(3)))?;
-    check_eq(book.load(&[1, 41, 1, 1, 40, 1, 7, 2]), Err(LoadError::Enter(3, EnterError::Left)))?;
-    check_eq(book.load(&[2, 41, 1, 81, 7, 1]), Err(LoadError::Enter(0, EnterError::Code(1))))?;
-    check_eq(book.load(&[1, 41, 1, 1, 41, 1, 7, 2]), Err(LoadError::Enter(3, EnterError::Duplicate)))?;
+    check_eq(
+        book.load(&[1, 41, 1, 1, 40, 1, 7, 2]),
+        Err(LoadError::Enter(3, EnterError::Left)),
+    )?;
+    check_eq(
+        book.load(&[2, 41, 1, 81, 7, 1]),
+        Err(LoadError::Enter(0, EnterError::Code(1))),
+    )?;
+    check_eq(
+        book.load(&[1, 41, 1, 1, 41, 1, 7, 2]),
+        Err(LoadError::Enter(3, EnterError::Duplicate)),
+    )?;
     check_eq(book.load(&[1, 41, 1, 7, 0]), Err(LoadError::Count(3)))?;
     check_eq(book.load(&[1, 41, 1, 7, 2, 9]), Err(LoadError::Count(3)))?;
     check_eq(book.load(&[1, 41, 1, 7, 1, 7]), Err(LoadError::Trailing(5)))?;

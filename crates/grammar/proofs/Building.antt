@@ -50,7 +50,7 @@ row-clear x [] e = λ y h. absurd (omega arith)
 row-clear x (a ∷ row) e = go (isConflict a) refl e (row-clear (suc x) row)
   where
     go : (c : Bool) → isConflict a ≡ c → _≡_ {A = Option ℕ} (elim c [ true ↦ Some x | false ↦ conflictIn (suc x) row ]) None
-      → (conflictIn (suc x) row ≡ None → Clear row (length row)) → Clear (a ∷ row) (suc (length row))
+        → (conflictIn (suc x) row ≡ None → Clear row (length row)) → Clear (a ∷ row) (suc (length row))
     go true f h more = clash (cc)
     go false f h more = clear-more a row (length row) f (more h)
 
@@ -88,7 +88,7 @@ rows-clear s [] e = λ t h. absurd (omega arith)
 rows-clear s (row ∷ rows) e = go (conflictIn 0 row) refl e (rows-clear (suc s) rows)
   where
     go : (o : Option ℕ) → conflictIn 0 row ≡ o → _≡_ {A = Option (ℕ × ℕ)} (elim o [ Some x ↦ Some (s, x) | None ↦ conflictFrom (suc s) rows ]) None
-      → (conflictFrom (suc s) rows ≡ None → Clear-rows rows (length rows)) → Clear-rows (row ∷ rows) (suc (length rows))
+        → (conflictFrom (suc s) rows ≡ None → Clear-rows rows (length rows)) → Clear-rows (row ∷ rows) (suc (length rows))
     go (Some x) f h more = clash (cc)
     go None f h more = clear-rows-more row rows (length rows) (row-clear 0 row f) (more h)
 
@@ -105,7 +105,7 @@ rows-lowest s [] t y e = clash (cc)
 rows-lowest s (row ∷ rows) t y e = go (conflictIn 0 row) refl e (rows-lowest (suc s) rows t y)
   where
     go : (o : Option ℕ) → conflictIn 0 row ≡ o → _≡_ {A = Option (ℕ × ℕ)} (elim o [ Some x ↦ Some (s, x) | None ↦ conflictFrom (suc s) rows ]) (Some (t, y))
-      → (conflictFrom (suc s) rows ≡ Some (t, y) → Lowest-row (suc s) rows t y) → Lowest-row s (row ∷ rows) t y
+        → (conflictFrom (suc s) rows ≡ Some (t, y) → Lowest-row (suc s) rows t y) → Lowest-row s (row ∷ rows) t y
     go (Some x) f h more =
         let q : _≡_ {A = ℕ × ℕ} (s, x) (t, y) = cc in
         let g : s ≡ t = ap (λ p. p .0) q in
@@ -210,7 +210,7 @@ module _ (closing-means : Closing-means) (reads-mean : Reads-mean) (expansion-me
       let e = entry-at rules policy ks s x h l in
       subst (Sole rules policy (getD ks s []) x) (sym e)
       (sole-at closing-means reads-mean expansion-means complete-means rules bounded policy (getD ks s []) (numbers .shaped s h) x ks
-        (clear-is (act rules policy ks (getD ks s []) x) (subst (λ a. isConflict a ≡ false) e clear)))
+      (clear-is (act rules policy ks (getD ks s []) x) (subst (λ a. isConflict a ≡ false) e clear)))
 
   two-in : (s x : ℕ) → s < length ks → x < symbolCount → isConflict (entry rules policy ks s x) ≡ true → Two rules policy ks s x
   two-in s x h l both =
@@ -222,7 +222,7 @@ module _ (closing-means : Closing-means) (reads-mean : Reads-mean) (expansion-me
 
   -- without a conflict every entry is the move that applies
   all-sole : conflictFrom 0 (table rules policy ks) ≡ None → (s x : ℕ) → s < length (table rules policy ks) → x < symbolCount
-    → Sole rules policy (getD ks s []) x (entry rules policy ks s x)
+      → Sole rules policy (getD ks s []) x (entry rules policy ks s x)
   all-sole none s x h l =
       let long = table-long rules policy ks in
       let m : s < length ks = omega arith in
@@ -231,19 +231,19 @@ module _ (closing-means : Closing-means) (reads-mean : Reads-mean) (expansion-me
 
   -- a shift goes to the next state
   all-go : length ks ≤ mostStates → (s x k : ℕ) → s < length (table rules policy ks) → x < symbolCount → entry rules policy ks s x ≡ shift k
-    → (k < length (table rules policy ks)) × (getD ks k [] ≡ onward x (numbered rules) (itemsOf policy (relationsOf rules) (getD ks s [])))
+      → (k < length (table rules policy ks)) × (getD ks k [] ≡ onward x (numbered rules) (itemsOf policy (relationsOf rules) (getD ks s [])))
   all-go few s x k h l is =
       let long = table-long rules policy ks in
       let m : s < length ks = omega arith in
       let (r, e) = shift-at closing-means reads-mean expansion-means complete-means rules bounded policy (getD ks s []) (numbers .shaped s m) x ks k
-            (sym (entry-at rules policy ks s x m l) ∙ is) in
+      (sym (entry-at rules policy ks s x m l) ∙ is) in
       let next : Items = onward x (numbered rules) (itemsOf policy (relationsOf rules) (getD ks s [])) in
       let (a, b) = subst (λ n. (n < length ks) × (getD ks n [] ≡ next)) (sym e) (numbers .all few next (following x (numbers .reached s m) r)) in
       (omega arith, b)
 
   -- the conflict that is found is the lowest
   lowest-two : (s x : ℕ) → conflictFrom 0 (table rules policy ks) ≡ Some (s, x)
-    → Two rules policy ks s x × ((t y : ℕ) → t < s → y < symbolCount → Two rules policy ks t y → ⊥) × ((y : ℕ) → y < x → Two rules policy ks s y → ⊥)
+      → Two rules policy ks s x × ((t y : ℕ) → t < s → y < symbolCount → Two rules policy ks t y → ⊥) × ((y : ℕ) → y < x → Two rules policy ks s y → ⊥)
   lowest-two s x found =
       let long = table-long rules policy ks in
       let low = rows-lowest 0 (table rules policy ks) s x found in
@@ -252,26 +252,28 @@ module _ (closing-means : Closing-means) (reads-mean : Reads-mean) (expansion-me
       let here : Lowest 0 (getD (table rules policy ks) s []) x = subst (λ t. Lowest 0 (getD (table rules policy ks) t []) x) e (low .here) in
       let wide = row-long rules policy ks s h in
       let f : here .place ≡ x = let p = here .is in omega arith in
-      let l : x < symbolCount = let p = here .inside in omega arith in
-      ( two-in s x h l (subst (λ y. isConflict (entry rules policy ks s y) ≡ true) f (here .here))
-      , λ t y a b.
-          let j : t < length ks = omega arith in
-          let w = row-long rules policy ks t j in
-          not-two t y j b (low .lower t (omega arith) y (omega arith))
-      , λ y a. not-two s y h (omega arith) (here .lower y (omega arith)) )
+      let l : x < symbolCount = let p = here .inside in omega arith in (
+        two-in s x h l (subst (λ y. isConflict (entry rules policy ks s y) ≡ true) f (here .here)),
+        λ t y a b.
+            let j : t < length ks = omega arith in
+            let w = row-long rules policy ks t j in
+            not-two t y j b (low .lower t (omega arith) y (omega arith)),
+        λ y a. not-two s y h (omega arith) (here .lower y (omega arith)),
+      )
 
 -- The law.
 
 -- refusal 8 is the answer exactly if no symbol is useless and there are too many states
 pub eight-exactly : (rules : List Production) (policy : Policy)
-  → (buildSays policy rules ≡ refused (no 8 [])) ↔ ((uselessIn rules ≡ None) × (mostStates < length (kernelsOf policy (relationsOf rules))))
+    → (buildSays policy rules ≡ refused (no 8 [])) ↔ ((uselessIn rules ≡ None) × (mostStates < length (kernelsOf policy (relationsOf rules))))
 eight-exactly rules policy =
     let ks = kernelsOf policy (relationsOf rules) in
     let u = uselessIn rules in
     let c = leb (length ks) mostStates in
-    let o = conflictFrom 0 (table rules policy ks) in
-    ( λ e. let (a, b) = eight-from u c o (table rules policy ks) e in (a, leb-false (length ks) mostStates b)
-    , λ h. eight-to u c o (table rules policy ks) (h .0) (lt-leb (length ks) mostStates (h .1)) )
+    let o = conflictFrom 0 (table rules policy ks) in (
+      λ e. let (a, b) = eight-from u c o (table rules policy ks) e in (a, leb-false (length ks) mostStates b),
+      λ h. eight-to u c o (table rules policy ks) (h .0) (lt-leb (length ks) mostStates (h .1)),
+    )
 
 module _ (closing-means : Closing-means) (reads-mean : Reads-mean) (expansion-means : Expansion-means) (complete-means : Complete-means) (states-mean : States-mean) where
   granted-means : (rules : List Production) → allBounded rules ≡ true → (policy : Policy) (rows : List (List Act)) → buildSays policy rules ≡ granted rows → Tables-mean rules policy rows
@@ -282,12 +284,13 @@ module _ (closing-means : Closing-means) (reads-mean : Reads-mean) (expansion-me
       let (u, c, o, is) = grant-from (uselessIn rules) (leb (length ks) mostStates) (conflictFrom 0 (table rules policy ks)) (table rules policy ks) rows e in
       let few = leb-true (length ks) mostStates c in
       subst (Tables-mean rules policy) is
-      (record
-        { useful = u
-        ; few = few
-        ; many = table-long rules policy ks
-        ; sole = all-sole closing-means reads-mean expansion-means complete-means rules bounded policy ks numbers o
-        ; goes = all-go closing-means reads-mean expansion-means complete-means rules bounded policy ks numbers few })
+      (record {
+        useful = u;
+        few = few;
+        many = table-long rules policy ks;
+        sole = all-sole closing-means reads-mean expansion-means complete-means rules bounded policy ks numbers o;
+        goes = all-go closing-means reads-mean expansion-means complete-means rules bounded policy ks numbers few;
+      })
 
   nine-means : (rules : List Production) → allBounded rules ≡ true → (policy : Policy) (s x : ℕ) → buildSays policy rules ≡ refused (no 9 (s ∷ x ∷ [])) → Lowest-conflict rules policy s x
   nine-means rules bounded policy s x e =
@@ -295,10 +298,11 @@ module _ (closing-means : Closing-means) (reads-mean : Reads-mean) (expansion-me
       let ks = kernelsOf policy rel in
       let (u, c, o) = nine-from (uselessIn rules) (leb (length ks) mostStates) (conflictFrom 0 (table rules policy ks)) (table rules policy ks) s x e in
       let (two, state, symbol) = lowest-two closing-means reads-mean expansion-means complete-means rules bounded policy ks (states-mean rules bounded policy) s x o in
-      record
-        { here = record { one = two .0; other = two .1; apart = two .2; first = two .3; second = two .4 }
-        ; lower-state = λ t y a b k. state t y a b (k .one, k .other, k .apart, k .first, k .second)
-        ; lower-symbol = λ y a k. symbol y a (k .one, k .other, k .apart, k .first, k .second) }
+      record {
+        here = record { one = two .0; other = two .1; apart = two .2; first = two .3; second = two .4 };
+        lower-state = λ t y a b k. state t y a b (k .one, k .other, k .apart, k .first, k .second);
+        lower-symbol = λ y a k. symbol y a (k .one, k .other, k .apart, k .first, k .second);
+      }
 
   pub build-means : Build-means
   build-means rules bounded policy =
@@ -306,9 +310,10 @@ module _ (closing-means : Closing-means) (reads-mean : Reads-mean) (expansion-me
       let u = uselessIn rules in
       let c = leb (length ks) mostStates in
       let o = conflictFrom 0 (table rules policy ks) in
-      record
-        { grants = granted-means rules bounded policy
-        ; useless = λ x. (seven-from u c o (table rules policy ks) x, seven-to u c o (table rules policy ks) x)
-        ; many = eight-exactly rules policy
-        ; useful = λ s x e. (let (a, b, d) = nine-from u c o (table rules policy ks) s x e in (a, leb-true (length ks) mostStates b))
-        ; clashes = nine-means rules bounded policy }
+      record {
+        grants = granted-means rules bounded policy;
+        useless = λ x. (seven-from u c o (table rules policy ks) x, seven-to u c o (table rules policy ks) x);
+        many = eight-exactly rules policy;
+        useful = λ s x e. (let (a, b, d) = nine-from u c o (table rules policy ks) s x e in (a, leb-true (length ks) mostStates b));
+        clashes = nine-means rules bounded policy;
+      }

@@ -104,13 +104,13 @@ module _ (look : Look) (x : ℕ) where
 
   -- an action beside which no other may stand: it stays, and no rule looks, or there is a conflict, and one does
   beside-one : (a : Act) → ((b : Act) → beside a b ≡ conflict) → (rs : List ℕ)
-    → ((withReduces look x rs a ≡ a) × ((r : ℕ) → Looks rs r → ⊥)) ⊎ ((withReduces look x rs a ≡ conflict) × (r : ℕ) × Looks rs r)
+      → ((withReduces look x rs a ≡ a) × ((r : ℕ) → Looks rs r → ⊥)) ⊎ ((withReduces look x rs a ≡ conflict) × (r : ℕ) × Looks rs r)
   beside-one a full [] = inl (refl, λ r l. l .0)
   beside-one a full (q ∷ rs) = go (inLookahead look q x) refl (beside-one a full rs)
     where
       go : (c : Bool) → inLookahead look q x ≡ c
-        → ((withReduces look x rs a ≡ a) × ((r : ℕ) → Looks rs r → ⊥)) ⊎ ((withReduces look x rs a ≡ conflict) × (r : ℕ) × Looks rs r)
-        → ((withReduces look x rs (elim c [ true ↦ beside a (reduceBy q) | false ↦ a ]) ≡ a) × ((r : ℕ) → Looks (q ∷ rs) r → ⊥))
+          → ((withReduces look x rs a ≡ a) × ((r : ℕ) → Looks rs r → ⊥)) ⊎ ((withReduces look x rs a ≡ conflict) × (r : ℕ) × Looks rs r)
+          → ((withReduces look x rs (elim c [ true ↦ beside a (reduceBy q) | false ↦ a ]) ≡ a) × ((r : ℕ) → Looks (q ∷ rs) r → ⊥))
           ⊎ ((withReduces look x rs (elim c [ true ↦ beside a (reduceBy q) | false ↦ a ]) ≡ conflict) × (r : ℕ) × Looks (q ∷ rs) r)
       go true e more = inr (ap (withReduces look x rs) (full (reduceBy q)) ∙ conflict-stays rs, q, (inl refl, e))
       go false e (inl (s, n)) = inl (s, λ r l. n r (behind q r rs e l))
@@ -132,9 +132,10 @@ module _ (look : Look) (x : ℕ) where
     where
       go : (c : Bool) → inLookahead look q x ≡ c → Rules rs (withReduces look x rs nothing) → Rules (q ∷ rs) (withReduces look x rs (elim c [ true ↦ reduceBy q | false ↦ nothing ]))
       go true e more =
-          elim (beside-one (reduceBy q) (reduce-full q) rs)
-            [ inl (s, n) ↦ one q s (inl refl, e) (λ r l. elim (l .0) [ inl h ↦ h | inr i ↦ absurd (n r (i, l .1)) ])
-            | inr (s, r, l) ↦ two s r q (u .0 r (l .0)) (inr (l .0), l .1) (inl refl, e) ]
+          elim (beside-one (reduceBy q) (reduce-full q) rs) [
+            | inl (s, n) ↦ one q s (inl refl, e) (λ r l. elim (l .0) [ inl h ↦ h | inr i ↦ absurd (n r (i, l .1)) ])
+            | inr (s, r, l) ↦ two s r q (u .0 r (l .0)) (inr (l .0), l .1) (inl refl, e)
+          ]
       go false e (none s n) = none s (λ r l. n r (behind q r rs e l))
       go false e (one r s l n) = one r s (inr (l .0), l .1) (λ p m. n p (behind q p rs e m))
       go false e (two s r p d l m) = two s r p d (inr (l .0), l .1) (inr (m .0), m .1)
@@ -214,7 +215,7 @@ module _ (look : Look) (x : ℕ) where
 -- a rule is complete where an item of it has nothing behind its dot
 abbrev pub Complete-means : Type 0
 Complete-means = (rules : List Production) (items : Items) → Shaped rules items → (r : ℕ)
-  → (isComplete (numbered rules) items r ≡ true) ↔ ((d : ℕ) × Holds items r d × (after rules r d ≡ []))
+    → (isComplete (numbered rules) items r ≡ true) ↔ ((d : ℕ) × Holds items r d × (after rules r d ≡ []))
 
 module _ (closing-means : Closing-means) (reads-mean : Reads-mean) (expansion-means : Expansion-means) (complete-means : Complete-means)
     (rules : List Production) (bounded : allBounded rules ≡ true) (policy : Policy) (k : Items) (shaped : Shaped rules k) (x : ℕ) where
@@ -232,11 +233,12 @@ module _ (closing-means : Closing-means) (reads-mean : Reads-mean) (expansion-me
   complete-in r d c e =
       let (shape, means) = closing-means rules bounded k shaped in
       let h : Holds closed-items r d = means r d .1 c in
-      let l : r < length (numbered rules) = elim (cases-lt r (length closed-items))
-            [ inl l ↦ subst (λ n. r < n) (shape .rows) l
-            | inr g ↦ let f : has (getD closed-items r []) d ≡ has [] d = ap (λ row. has row d) (getD-past closed-items r [] g) in clash (cc) ] in
+      let l : r < length (numbered rules) = elim (cases-lt r (length closed-items)) [
+        | inl l ↦ subst (λ n. r < n) (shape .rows) l
+        | inr g ↦ let f : has (getD closed-items r []) d ≡ has [] d = ap (λ row. has row d) (getD-past closed-items r [] g) in clash (cc)
+      ] in
       keep-in (isComplete (numbered rules) closed-items) (upFrom 0 (length (numbered rules))) r (in-up 0 (length (numbered rules)) r (omega arith) (omega arith))
-        (complete-means rules closed-items shape r .1 (d, h, e))
+      (complete-means rules closed-items shape r .1 (d, h, e))
 
   complete-from : (r : ℕ) → In r (completeIn (numbered rules) closed-items) → (r ≤ length rules) × (d : ℕ) × Closed rules (Holds k) r d × (after rules r d ≡ [])
   complete-from r i =
@@ -285,7 +287,7 @@ module _ (closing-means : Closing-means) (reads-mean : Reads-mean) (expansion-me
     sole-at c = record { clear = c; applies = made looked x tells act acts c; only = sole-made looked x tells act acts c }
 
     pub conflict-at : act ≡ conflict
-      → (one other : Move) × (one ≡ other → ⊥) × Applies rules (Holds k) looked x one × Applies rules (Holds k) looked x other
+        → (one other : Move) × (one ≡ other → ⊥) × Applies rules (Holds k) looked x one × Applies rules (Holds k) looked x other
     conflict-at c = two-made looked x tells act acts c
 
     pub shift-at : (n : ℕ) → act ≡ shift n → (has (reads (numbered rules) all-items) x ≡ true) × (n ≡ numberOf kernels (onward x (numbered rules) all-items))
@@ -293,5 +295,5 @@ module _ (closing-means : Closing-means) (reads-mean : Reads-mean) (expansion-me
 
 -- where the table is clear no two moves apply
 pub sole-alone : {rules : List Production} {policy : Policy} {k : Items} {x : ℕ} {a : Act} → Sole rules policy k x a → (m n : Move)
-  → Applies rules (Holds k) (policy (relationsOf rules) (close (numbered rules) k)) x m → Applies rules (Holds k) (policy (relationsOf rules) (close (numbered rules) k)) x n → m ≡ n
+    → Applies rules (Holds k) (policy (relationsOf rules) (close (numbered rules) k)) x m → Applies rules (Holds k) (policy (relationsOf rules) (close (numbered rules) k)) x n → m ≡ n
 sole-alone sole m n p q = let e = sole .only m p in let f = sole .only n q in cc

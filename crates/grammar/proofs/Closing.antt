@@ -31,9 +31,10 @@ module _ (rules : List Production) (b : allBounded rules ≡ true) (k : Items) w
   inner r d q ws e h =
       let at = behind-at (ruleOf rules r .rhs) d (ruleOf rules q .lhs) ws e in
       let low = rule-fits rules b r .symbols d (at .0) .0 in
-      elim (cases-eq q 0)
-        [ inl z ↦ let y : ruleOf rules q .lhs ≡ 0 = ap (λ j. ruleOf rules j .lhs) z in absurd (omega (arith, at .1))
-        | inr n ↦ record { low = omega arith; high = omega arith } ]
+      elim (cases-eq q 0) [
+        | inl z ↦ let y : ruleOf rules q .lhs ≡ 0 = ap (λ j. ruleOf rules j .lhs) z in absurd (omega (arith, at .1))
+        | inr n ↦ record { low = omega arith; high = omega arith }
+      ]
 
   -- what rounds keep: the shape, that only items of the closed set are in, and that all of the kernel are
   record Between (t : Items) : Type 0 where
@@ -43,18 +44,20 @@ module _ (rules : List Production) (b : allBounded rules ≡ true) (k : Items) w
 
   round-sound : (t : Items) → Between t → (q e : ℕ) → Holds (openBy (opensIn t) t) q e → Closed rules (Holds k) q e
   round-sound t w q e h =
-      elim (open-from (opensIn t) t q e h)
-        [ inl p ↦ w .sound q e p
+      elim (open-from (opensIn t) t q e h) [
+        | inl p ↦ w .sound q e p
         | inr p ↦
             let m = reads-mean rules b t (w .shaped) (ruleOf rules q .lhs) .0 (p .0) in
             subst (λ z. Closed rules (Holds k) q z) (sym (p .2))
-              (opens q (w .sound (m .0) (m .1) (m .3)) (m .4) (inner (m .0) (m .1) q (m .2) (m .4) (omega (arith, p .1, w .shaped .rows))) refl) ]
+            (opens q (w .sound (m .0) (m .1) (m .3)) (m .4) (inner (m .0) (m .1) q (m .2) (m .4) (omega (arith, p .1, w .shaped .rows))) refl)
+      ]
 
   round-keeps : (t : Items) → Between t → Between (closeRound (numbered rules) t)
-  round-keeps t w = subst Between (sym (round-is t (w .shaped))) record
-      { shaped = open-shaped rules (opensIn t) t (w .shaped)
-      ; sound = round-sound t w
-      ; full = λ r d h. open-keeps (opensIn t) t r d (w .full r d h) }
+  round-keeps t w = subst Between (sym (round-is t (w .shaped))) record {
+    shaped = open-shaped rules (opensIn t) t (w .shaped);
+    sound = round-sound t w;
+    full = λ r d h. open-keeps (opensIn t) t r d (w .full r d h);
+  }
 
   round-or : (t : Items) → Between t → (closeRound (numbered rules) t ≡ t) ⊎ (missing (closeRound (numbered rules) t) < missing t)
   round-or t w = rw (round-is t (w .shaped)) (open-or (opensIn t) t)
@@ -73,5 +76,5 @@ pub closing-means : Closing-means
 closing-means rules b k sh =
     let at-first : Between rules b k k = record { shaped = sh; sound = λ r d h. kept h; full = λ r d h. h } in
     let end = rests (closeRound (numbered rules)) (Between rules b k) missing (round-keeps rules b k) (round-or rules b k) (length (numbered rules)) k at-first
-          (omega (arith, missing-le k, sh .rows)) in
+    (omega (arith, missing-le k, sh .rows)) in
     (end .1 .shaped, λ r d. (end .1 .sound r d, rest-full rules b k (close (numbered rules) k) (end .1) (end .0) r d))

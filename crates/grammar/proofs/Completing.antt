@@ -27,6 +27,7 @@ complete-means rules items sh r = (from, to)
   where
     from : isComplete (numbered rules) items r ≡ true → Complete rules items r
     from e = (length (ruleOf rules r .rhs), e, drop-length (ruleOf rules r .rhs))
+
     to : Complete rules items r → isComplete (numbered rules) items r ≡ true
     to c =
         let end : c .0 ≡ length (ruleOf rules r .rhs) = omega (arith, sh .within r (c .0) (c .1), nothing-behind (ruleOf rules r .rhs) (c .0) (c .2)) in
@@ -37,7 +38,8 @@ complete-in-means rules items sh r = (from, to)
   where
     from : In r (completeIn (numbered rules) items) → Complete rules items r
     from i = complete-means rules items sh r .0 (kept-from (isComplete (numbered rules) items) (upFrom 0 (length (numbered rules))) r i .1)
+
     to : Complete rules items r → In r (completeIn (numbered rules) items)
     to c =
         kept-has (isComplete (numbered rules) items) (upFrom 0 (length (numbered rules))) r
-          (counted-has 0 (length (numbered rules)) r (omega arith) (omega (arith, held-row items r (c .0) (c .1), sh .rows))) (complete-means rules items sh r .1 c)
+        (counted-has 0 (length (numbered rules)) r (omega arith) (omega (arith, held-row items r (c .0) (c .1), sh .rows))) (complete-means rules items sh r .1 c)

@@ -37,30 +37,32 @@ module _ (end : Production → ℕ) (rules : List Production) where
   -- what a rule puts in is a corner of its left side
   step-sound : (x : ℕ) (s : Flags) (p : Production) → In p rules → Sound x s → Sound x (cornerStep end s p)
   step-sound x s p m h y e =
-      elim (insert-if-from (has s (p .lhs)) s (end p) y e)
-        [ inl o ↦ h y o
+      elim (insert-if-from (has s (p .lhs)) s (end p) y e) [
+        | inl o ↦ h y o
         | inr n ↦
             let r = number-of rules p m in
             let c : Corner end rules y (end (ruleOf rules (r .0))) = subst (Corner end rules y) (n .1 ∙ ap end (sym (r .2))) itself in
-            corner-of-corner y (p .lhs) x (through (r .0) (r .1) (ap (λ q. q .lhs) (r .2)) c) (h (p .lhs) (n .0)) ]
+            corner-of-corner y (p .lhs) x (through (r .0) (r .1) (ap (λ q. q .lhs) (r .2)) c) (h (p .lhs) (n .0))
+      ]
 
   corners-sound : (x : ℕ) → Sound x (cornersOf end rules x)
   corners-sound x =
       saturate-keeps (cornerStep end) (Sound x) rules (step-sound x) (only x)
-        (λ y e. subst (Corner end rules y) (only-from x y e) itself)
+      (λ y e. subst (Corner end rules y) (only-from x y e) itself)
 
   -- the corners that are worked out are the corners, if the ends of all rules are codes
   pub corners-mean : ((k : ℕ) → InBook rules k → end (ruleOf rules k) < symbolCount) → (x z : ℕ) → x < symbolCount
-    → (has (getD (corners end rules) x []) z ≡ true) ↔ Corner end rules z x
+      → (has (getD (corners end rules) x []) z ≡ true) ↔ Corner end rules z x
   corners-mean below x z h =
       let at : getD (corners end rules) x [] ≡ cornersOf end rules x = at-code (cornersOf end rules) [] x h in
       let done = saturated (cornerStep end) (λ p. end p < symbolCount) Ended
-                   (λ s p. insert-if-long (has s (p .lhs)) s (end p))
-                   (λ s p b l. insert-if-or (has s (p .lhs)) s (end p) (omega arith))
-                   rules (of-each (λ p. end p < symbolCount) rules below) (only x) (length-only x) in
-      let stays = saturate-keeps (cornerStep end) (λ s. has s x ≡ true) rules (λ s p m. insert-if-keeps (has s (p .lhs)) s (end p) x) (only x) (only-has x h) in
-      (λ e. corners-sound x z (sym (ap (λ s. has s z) at) ∙ e),
-       λ c. ap (λ s. has s z) at ∙ ended-corners (cornersOf end rules x) (done .1) z x c stays)
+      (λ s p. insert-if-long (has s (p .lhs)) s (end p))
+      (λ s p b l. insert-if-or (has s (p .lhs)) s (end p) (omega arith))
+      rules (of-each (λ p. end p < symbolCount) rules below) (only x) (length-only x) in
+      let stays = saturate-keeps (cornerStep end) (λ s. has s x ≡ true) rules (λ s p m. insert-if-keeps (has s (p .lhs)) s (end p) x) (only x) (only-has x h) in (
+        λ e. corners-sound x z (sym (ap (λ s. has s z) at) ∙ e),
+        λ c. ap (λ s. has s z) at ∙ ended-corners (cornersOf end rules x) (done .1) z x c stays,
+      )
 
 pub left-corners-mean : Left-corners-mean
 left-corners-mean rules a = corners-mean first rules (λ k b. omega (arith, first-in rules a k b .1))

@@ -69,18 +69,19 @@ module _ (rules : List Production) (b : allBounded rules ≡ true) (lefts leftmo
       let m = any-from (between? a c) (upFrom firstNonterminal 40) e in
       let l = counted-from firstNonterminal 40 (m .0) (m .1) in
       let p = then-parts (has (getD leftmosts a []) (m .0)) (has (getD lefts (m .0) []) c) (m .2) in
-      record
-        { between = m .0
-        ; follows = leftmosts-mean a (m .0) h .0 (p .0)
-        ; inner = and-from _ _ (le-leb firstNonterminal (m .0) (l .0)) (le-leb (m .0) lastSymbol (omega (arith, l .1)))
-        ; corner = lefts-mean (m .0) c (omega (arith, l .1)) .0 (p .1) }
+      record {
+        between = m .0;
+        follows = leftmosts-mean a (m .0) h .0 (p .0);
+        inner = and-from _ _ (le-leb firstNonterminal (m .0) (l .0)) (le-leb (m .0) lastSymbol (omega (arith, l .1)));
+        corner = lefts-mean (m .0) c (omega (arith, l .1)) .0 (p .1);
+      }
 
   leads-has : (a c : ℕ) → a < symbolCount → Leads rules a c → leads rel a c ≡ true
   leads-has a c h w =
       let l = and-parts (leb firstNonterminal (w .between)) (leb (w .between) lastSymbol) (w .inner) in
       let small : w .between < symbolCount = omega (arith, leb-true (w .between) lastSymbol (l .1)) in
       any-has (between? a c) (upFrom firstNonterminal 40) (w .between) (counted-has firstNonterminal 40 (w .between) (leb-true firstNonterminal (w .between) (l .0)) (omega arith))
-        (then-from _ _ (leftmosts-mean a (w .between) h .1 (w .follows)) (lefts-mean (w .between) c small .1 (w .corner)))
+      (then-from _ _ (leftmosts-mean a (w .between) h .1 (w .follows)) (lefts-mean (w .between) c small .1 (w .corner)))
 
   -- Which rules are put in for a set of items.
   module _ (items : Items) (sh : Shaped rules items) where
@@ -102,19 +103,20 @@ module _ (rules : List Production) (b : allBounded rules ≡ true) (lefts leftmo
         let c = complete-in-means rules items sh (m .0) .0 (j .0) in
         let i : InBook rules (m .0) = record { low = leb-true 1 (m .0) (j .1); high = omega (arith, held-row items (m .0) (c .0) (c .1), sh .rows) } in
         let p = then-parts (leads rel (ruleOf rules (m .0) .lhs) (ruleOf rules q .lhs)) (not (look (m .0) (first (ruleOf rules q)))) (m .2) in
-        record
-          { by = m .0
-          ; inside = i
-          ; complete = c
-          ; lead = leads-from (ruleOf rules (m .0) .lhs) (ruleOf rules q .lhs) (left-is-symbol rules b (m .0) i) (p .0)
-          ; blind = not-true (look (m .0) (first (ruleOf rules q))) (p .1) }
+        record {
+          by = m .0;
+          inside = i;
+          complete = c;
+          lead = leads-from (ruleOf rules (m .0) .lhs) (ruleOf rules q .lhs) (left-is-symbol rules b (m .0) i) (p .0);
+          blind = not-true (look (m .0) (first (ruleOf rules q))) (p .1);
+        }
 
     put-has : (q : ℕ) → Put q → any (expandsBy rel look q) completes ≡ true
     put-has q w =
         any-has (expandsBy rel look q) completes (w .by)
-          (kept-has (leb 1) (completeIn (numbered rules) items) (w .by) (complete-in-means rules items sh (w .by) .1 (w .complete)) (le-leb 1 (w .by) (w .inside .low)))
-          (then-from _ _ (leads-has (ruleOf rules (w .by) .lhs) (ruleOf rules q .lhs) (left-is-symbol rules b (w .by) (w .inside)) (w .lead))
-            (not-from-false (look (w .by) (first (ruleOf rules q))) (w .blind)))
+        (kept-has (leb 1) (completeIn (numbered rules) items) (w .by) (complete-in-means rules items sh (w .by) .1 (w .complete)) (le-leb 1 (w .by) (w .inside .low)))
+        (then-from _ _ (leads-has (ruleOf rules (w .by) .lhs) (ruleOf rules q .lhs) (left-is-symbol rules b (w .by) (w .inside)) (w .lead))
+        (not-from-false (look (w .by) (first (ruleOf rules q))) (w .blind)))
 
     expand-is : expand rel look items ≡ openBy (putsIn rel look completes) items
     expand-is = expand-for-is rel look completes items
@@ -128,10 +130,10 @@ module _ (rules : List Production) (b : allBounded rules ≡ true) (lefts leftmo
         go : (j : ℕ) → Holds (openBy (putsIn rel look completes) items) j d → Holds items j d ⊎ (InBook rules j × Put j × (d ≡ 0))
         go zero h =
             elim (open-from (putsIn rel look completes) items 0 d h)
-              [ inl p ↦ inl p | inr p ↦ absurd (false≢true (p .0)) ]
+            [ inl p ↦ inl p | inr p ↦ absurd (false≢true (p .0)) ]
         go (suc j) h =
             elim (open-from (putsIn rel look completes) items (suc j) d h)
-              [ inl p ↦ inl p | inr p ↦ inr (record { low = omega arith; high = omega (arith, p .1, sh .rows) }, put-from (suc j) (p .0), p .2) ]
+            [ inl p ↦ inl p | inr p ↦ inr (record { low = omega arith; high = omega (arith, p .1, sh .rows) }, put-from (suc j) (p .0), p .2) ]
 
     expand-keeps : (q d : ℕ) → Holds items q d → Holds (expand rel look items) q d
     expand-keeps q d h = subst (λ t. Holds t q d) (sym expand-is) (open-keeps (putsIn rel look completes) items q d h)
@@ -141,7 +143,7 @@ module _ (rules : List Production) (b : allBounded rules ≡ true) (lefts leftmo
     expand-has (suc q) i w =
         let h : suc q < length (numbered rules) = omega (arith, i .high) in
         subst (λ t. Holds t (suc q) 0) (sym expand-is)
-          (open-has (putsIn rel look completes) items (suc q) (omega (arith, sh .rows)) (omega (arith, sh .dots (suc q) h)) (put-has (suc q) w))
+        (open-has (putsIn rel look completes) items (suc q) (omega (arith, sh .rows)) (omega (arith, sh .dots (suc q) h)) (put-has (suc q) w))
 
   -- The items of a state.
   module _ (k : Items) (sh : Shaped rules k) where
@@ -156,26 +158,31 @@ module _ (rules : List Production) (b : allBounded rules ≡ true) (lefts leftmo
 
     state-from : (r d : ℕ) → Holds (expand rel look whole) r d → Expanded rules (Holds k) look r d
     state-from r d e =
-        elim (expand-from whole whole-shaped r d e)
-          [ inl h ↦ closed (whole-means r d .0 h)
+        elim (expand-from whole whole-shaped r d e) [
+          | inl h ↦ closed (whole-means r d .0 h)
           | inr p ↦
               let w = p .1 in
               subst (Expanded rules (Holds k) look r) (sym (p .2))
-                (expands r (whole-means (w .by) (w .complete .0) .0 (w .complete .1)) (w .complete .2) (w .inside) (w .lead .follows) (w .lead .inner) (p .0) (w .lead .corner) (w .blind)) ]
+              (expands r (whole-means (w .by) (w .complete .0) .0 (w .complete .1)) (w .complete .2) (w .inside) (w .lead .follows) (w .lead .inner) (p .0) (w .lead .corner) (w .blind))
+        ]
 
     state-has : (r d : ℕ) → Expanded rules (Holds k) look r d → Holds (expand rel look whole) r d
     state-has r d (closed c) = expand-keeps whole whole-shaped r d (whole-means r d .1 c)
     state-has _ _ (expands {r} {d} {y} q c behind i follows inner j corner blind) =
-        expand-has whole whole-shaped q j record
-          { by = r
-          ; inside = i
-          ; complete = (d, whole-means r d .1 c, behind)
-          ; lead = record { between = y; follows = follows; inner = inner; corner = corner }
-          ; blind = blind }
+        expand-has whole whole-shaped q j record {
+          by = r;
+          inside = i;
+          complete = (d, whole-means r d .1 c, behind);
+          lead = record { between = y; follows = follows; inner = inner; corner = corner };
+          blind = blind;
+        }
 
 pub expansion-means : Left-corners-mean → Leftmost-followers-mean → Expansion-means
 expansion-means left leftmost rules b look k sh =
-    let rel = relationsOf rules in
-    (expand-shaped rules b (rel .lefts) (rel .leftmosts) (rel .followers) (left rules b) (leftmost rules b) look (close (numbered rules) k) (closing-means rules b k sh .0),
-     λ r d. (state-from rules b (rel .lefts) (rel .leftmosts) (rel .followers) (left rules b) (leftmost rules b) look k sh r d,
-             state-has rules b (rel .lefts) (rel .leftmosts) (rel .followers) (left rules b) (leftmost rules b) look k sh r d))
+    let rel = relationsOf rules in (
+      expand-shaped rules b (rel .lefts) (rel .leftmosts) (rel .followers) (left rules b) (leftmost rules b) look (close (numbered rules) k) (closing-means rules b k sh .0),
+      λ r d. (
+        state-from rules b (rel .lefts) (rel .leftmosts) (rel .followers) (left rules b) (leftmost rules b) look k sh r d,
+        state-has rules b (rel .lefts) (rel .leftmosts) (rel .followers) (left rules b) (leftmost rules b) look k sh r d,
+      ),
+    )

@@ -27,7 +27,7 @@ number-hit [] k h = absurd (omega arith)
 number-hit (j ∷ ks) k h = go (sameItems j k) refl h (number-hit ks k)
   where
     go : (c : Bool) → sameItems j k ≡ c → elim c [ true ↦ 0 | false ↦ suc (numberOf ks k) ] < suc (length ks) → (numberOf ks k < length ks → getD ks (numberOf ks k) [] ≡ k)
-      → getD (j ∷ ks) (elim c [ true ↦ 0 | false ↦ suc (numberOf ks k) ]) [] ≡ k
+        → getD (j ∷ ks) (elim c [ true ↦ 0 | false ↦ suc (numberOf ks k) ]) [] ≡ k
     go true e l more = same-items-is j k e
     go false e l more = more (omega arith)
 
@@ -46,7 +46,7 @@ number-append [] js k h = absurd (omega arith)
 number-append (i ∷ ks) js k h = go (sameItems i k) h (number-append ks js k)
   where
     go : (c : Bool) → elim c [ true ↦ 0 | false ↦ suc (numberOf ks k) ] < suc (length ks) → (numberOf ks k < length ks → numberOf (ks ++ js) k ≡ numberOf ks k)
-      → _≡_ {A = ℕ} (elim c [ true ↦ 0 | false ↦ suc (numberOf (ks ++ js) k) ]) (elim c [ true ↦ 0 | false ↦ suc (numberOf ks k) ])
+        → _≡_ {A = ℕ} (elim c [ true ↦ 0 | false ↦ suc (numberOf (ks ++ js) k) ]) (elim c [ true ↦ 0 | false ↦ suc (numberOf ks k) ])
     go true l more = refl
     go false l more = ap suc (more (omega arith))
 
@@ -179,7 +179,7 @@ module _ (lines : List Production) (items : Items) (read : Flags) where
   next-found P next (x ∷ xs) ks f = next-found P next xs (along x ks) (along-found P next x ks f)
 
   next-known : (xs : List ℕ) (ks : List Items) (x : ℕ) → In x xs → has read x ≡ true
-    → numberOf (withNext lines items read xs ks) (onward x lines items) < length (withNext lines items read xs ks)
+      → numberOf (withNext lines items read xs ks) (onward x lines items) < length (withNext lines items read xs ks)
   next-known [] ks x i e = absurd i
   next-known (y ∷ xs) ks x (inl p) e =
       grows-known (next-grows xs (along y ks)) (onward x lines items)
@@ -231,14 +231,14 @@ module _ (policy : Policy) (rel : Relations) where
   visit-grows i ks = next-grows (rel .lines) (itemsOf policy rel (getD ks i [])) (reads (rel .lines) (itemsOf policy rel (getD ks i []))) codes ks
 
   visit-found : (P : Items → Type 0) (i : ℕ) (ks : List Items)
-    → ((x : ℕ) → has (reads (rel .lines) (itemsOf policy rel (getD ks i []))) x ≡ true → P (onward x (rel .lines) (itemsOf policy rel (getD ks i [])))) → Found P ks → Found P (visited i ks)
+      → ((x : ℕ) → has (reads (rel .lines) (itemsOf policy rel (getD ks i []))) x ≡ true → P (onward x (rel .lines) (itemsOf policy rel (getD ks i [])))) → Found P ks → Found P (visited i ks)
   visit-found P i ks next f = next-found (rel .lines) (itemsOf policy rel (getD ks i [])) (reads (rel .lines) (itemsOf policy rel (getD ks i []))) P next codes ks f
 
   visit-known : (i : ℕ) (ks : List Items) → i < length ks → Known (visited i ks) (getD (visited i ks) i [])
   visit-known i ks h =
       subst (Known (visited i ks)) (sym (grows-at (visit-grows i ks) i h))
       (λ x r. next-known (rel .lines) (itemsOf policy rel (getD ks i [])) (reads (rel .lines) (itemsOf policy rel (getD ks i []))) codes ks x
-        (in-up 0 symbolCount x (omega arith) (read-code (rel .lines) (itemsOf policy rel (getD ks i [])) x r)) r)
+      (in-up 0 symbolCount x (omega arith) (read-code (rel .lines) (itemsOf policy rel (getD ks i [])) x r)) r)
 
   known-grows : {ks ls : List Items} → Grows ks ls → (s : ℕ) → s < length ks → Known ks (getD ks s []) → Known ls (getD ls s [])
   known-grows {ks} {ls} g s h known =
@@ -254,12 +254,12 @@ module _ (policy : Policy) (rel : Relations) where
 
   -- what passes on from a kernel to those that follow it holds of all that are found
   explore-found : (P : Items → Type 0) → ((k : Items) → P k → (x : ℕ) → has (reads (rel .lines) (itemsOf policy rel k)) x ≡ true → P (onward x (rel .lines) (itemsOf policy rel k)))
-    → (n i : ℕ) (ks : List Items) → Found P ks → Found P (explore policy rel n i ks)
+      → (n i : ℕ) (ks : List Items) → Found P ks → Found P (explore policy rel n i ks)
   explore-found P next zero i ks f = f
   explore-found P next (suc n) i ks f = go (ltb i (length ks)) refl (explore-found P next n (suc i) (visited i ks))
     where
       go : (c : Bool) → ltb i (length ks) ≡ c → (Found P (visited i ks) → Found P (explore policy rel n (suc i) (visited i ks)))
-        → Found P (elim c [ true ↦ explore policy rel n (suc i) (visited i ks) | false ↦ ks ])
+          → Found P (elim c [ true ↦ explore policy rel n (suc i) (visited i ks) | false ↦ ks ])
       go true e more = more (visit-found P i ks (next (getD ks i []) (f .each i (ltb-true i (length ks) e))) f)
       go false e more = f
 
@@ -269,20 +269,21 @@ module _ (policy : Policy) (rel : Relations) where
 
   -- all states are visited, or there are more than the rounds
   explore-ends : (n i : ℕ) (ks : List Items) → ((s : ℕ) → s < i → s < length ks → Known ks (getD ks s []))
-    → Finished (explore policy rel n i ks) ⊎ (i + n < length (explore policy rel n i ks))
+      → Finished (explore policy rel n i ks) ⊎ (i + n < length (explore policy rel n i ks))
   explore-ends zero i ks known = elim (cases-lt i (length ks)) [ inl l ↦ inr (omega arith) | inr g ↦ inl (λ s h. known s (omega arith) h) ]
   explore-ends (suc n) i ks known = go (ltb i (length ks)) refl (explore-ends n (suc i) (visited i ks))
     where
       next : i < length ks → (s : ℕ) → s < suc i → s < length (visited i ks) → Known (visited i ks) (getD (visited i ks) s [])
       next l s h m =
-          elim (cases-eq s i)
-            [ inl e ↦ subst (λ j. Known (visited i ks) (getD (visited i ks) j [])) (sym e) (visit-known i ks l)
-            | inr d ↦ let a : s < i = omega arith in let b : s < length ks = omega arith in known-grows (visit-grows i ks) s b (known s a b) ]
+          elim (cases-eq s i) [
+            | inl e ↦ subst (λ j. Known (visited i ks) (getD (visited i ks) j [])) (sym e) (visit-known i ks l)
+            | inr d ↦ let a : s < i = omega arith in let b : s < length ks = omega arith in known-grows (visit-grows i ks) s b (known s a b)
+          ]
 
       go : (c : Bool) → ltb i (length ks) ≡ c
-        → (((s : ℕ) → s < suc i → s < length (visited i ks) → Known (visited i ks) (getD (visited i ks) s []))
+          → (((s : ℕ) → s < suc i → s < length (visited i ks) → Known (visited i ks) (getD (visited i ks) s []))
           → Finished (explore policy rel n (suc i) (visited i ks)) ⊎ (suc i + n < length (explore policy rel n (suc i) (visited i ks))))
-        → Finished (elim c [ true ↦ explore policy rel n (suc i) (visited i ks) | false ↦ ks ])
+          → Finished (elim c [ true ↦ explore policy rel n (suc i) (visited i ks) | false ↦ ks ])
           ⊎ (i + suc n < length {A = Items} (elim c [ true ↦ explore policy rel n (suc i) (visited i ks) | false ↦ ks ]))
       go true e more = elim (more (next (ltb-true i (length ks) e))) [ inl k ↦ inl k | inr l ↦ inr (omega arith) ]
       go false e more = let g = ltb-false i (length ks) e in inl (λ s h. known s (omega arith) h)
@@ -302,37 +303,38 @@ module _ (expansion-means : Expansion-means) (next-means : Next-means)
     (start-shaped : (rules : List Production) → allBounded rules ≡ true → Shaped rules (startKernel (numbered rules))) where
   -- a shaped kernel of the construction is followed by such kernels
   shaped-on : (rules : List Production) → allBounded rules ≡ true → (policy : Policy) (k : Items) → Shaped rules k × Kernel policy (relationsOf rules) k → (x : ℕ)
-    → has (reads (numbered rules) (itemsOf policy (relationsOf rules) k)) x ≡ true
-    → Shaped rules (onward x (numbered rules) (itemsOf policy (relationsOf rules) k)) × Kernel policy (relationsOf rules) (onward x (numbered rules) (itemsOf policy (relationsOf rules) k))
+      → has (reads (numbered rules) (itemsOf policy (relationsOf rules) k)) x ≡ true
+      → Shaped rules (onward x (numbered rules) (itemsOf policy (relationsOf rules) k)) × Kernel policy (relationsOf rules) (onward x (numbered rules) (itemsOf policy (relationsOf rules) k))
   shaped-on rules bounded policy k (shaped, kernel) x r =
       let s = expansion-means rules bounded (policy (relationsOf rules) (close (numbered rules) k)) k shaped .0 in
       (next-means rules bounded (itemsOf policy (relationsOf rules) k) s x .0, following x kernel r)
 
   -- the list after any number of rounds that is enough
   numbers-states : (rules : List Production) → allBounded rules ≡ true → (policy : Policy) (n : ℕ) (ks : List Items)
-    → explore policy (relationsOf rules) n 0 (startKernel (numbered rules) ∷ []) ≡ ks → mostStates ≤ n → Numbers-states rules policy ks
+      → explore policy (relationsOf rules) n 0 (startKernel (numbered rules) ∷ []) ≡ ks → mostStates ≤ n → Numbers-states rules policy ks
   numbers-states rules bounded policy n ks is enough =
       let rel = relationsOf rules in
       let start : List Items = startKernel (numbered rules) ∷ [] in
       let P : Items → Type 0 = λ k. Shaped rules k × Kernel policy rel k in
       let g : Grows start ks = subst (Grows start) is (explore-grows policy rel n 0 start) in
       let f : Found P ks =
-            subst (Found P) is (explore-found policy rel P (shaped-on rules bounded policy) n 0 start (found-one P (startKernel (numbered rules)) (start-shaped rules bounded, initial))) in
+      subst (Found P) is (explore-found policy rel P (shaped-on rules bounded policy) n 0 start (found-one P (startKernel (numbered rules)) (start-shaped rules bounded, initial))) in
       let ends : Finished policy rel ks ⊎ (0 + n < length ks) =
-            subst (λ l. Finished policy rel l ⊎ (0 + n < length l)) is (explore-ends policy rel n 0 start (λ s h. absurd (omega arith))) in
+      subst (λ l. Finished policy rel l ⊎ (0 + n < length l)) is (explore-ends policy rel n 0 start (λ s h. absurd (omega arith))) in
       let long = grows-length g in
       let some : 0 < length ks = omega arith in
       let begins : getD ks 0 [] ≡ startKernel (numbered rules) = grows-at g 0 (omega arith) in
-      record
-        { begins = begins
-        ; some = some
-        ; shaped = λ s h. f .each s h .0
-        ; reached = λ s h. f .each s h .1
-        ; apart = f .apart
-        ; all = λ few k kernel.
+      record {
+        begins = begins;
+        some = some;
+        shaped = λ s h. f .each s h .0;
+        reached = λ s h. f .each s h .1;
+        apart = f .apart;
+        all = λ few k kernel.
             let finished : Finished policy rel ks = elim ends [ inl d ↦ d | inr m ↦ absurd (omega arith) ] in
             let h = kernels-in policy rel ks some begins finished kernel in
-            (h, number-hit ks k h) }
+            (h, number-hit ks k h);
+      }
 
   pub states-mean : States-mean
   states-mean rules bounded policy = numbers-states rules bounded policy mostStates (kernelsOf policy (relationsOf rules)) refl (omega arith)

@@ -113,7 +113,7 @@ module _ {A S : Type 0} (step : S → A → S) where
 
   -- what one element brings about, where Q holds, and every element keeps is there in the end
   pub through-brings : (Q P : S → Type 0) (rs : List A) → ((r : A) (s : S) → Q s → Q (step s r)) → ((r : A) (s : S) → P s → P (step s r))
-    → (r : A) → In r rs → ((s : S) → Q s → P (step s r)) → (s : S) → Q s → P (through step rs s)
+      → (r : A) → In r rs → ((s : S) → Q s → P (step s r)) → (s : S) → Q s → P (through step rs s)
   through-brings Q P [] keepsQ keepsP r m brings s q = absurd m
   through-brings Q P (x ∷ rs) keepsQ keepsP r (inl e) brings s q =
       through-keeps P rs (λ y i. keepsP y) (step s x) (subst (λ y. P (step s y)) e (brings s q))

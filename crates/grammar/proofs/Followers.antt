@@ -38,9 +38,10 @@ module _ (p : ℕ → Bool) where
   behind-from : (s : Flags) (x : ℕ) (ys : List ℕ) (z : ℕ) → has (behind p s x ys) z ≡ true → (has s z ≡ true) ⊎ ((w : ℕ) × Adjacent w z (x ∷ ys) × (p w ≡ true))
   behind-from s x [] z e = inl e
   behind-from s x (y ∷ ys) z e =
-      elim (behind-from (insertIf (p x) s y) y ys z e)
-        [ inl o ↦ elim (insert-if-from (p x) s y z o) [ inl q ↦ inl q | inr n ↦ inr (x, subst (λ v. Adjacent x v (x ∷ y ∷ ys)) (sym (n .1)) here, n .0) ]
-        | inr r ↦ inr (r .0, later (r .1), r .2) ]
+      elim (behind-from (insertIf (p x) s y) y ys z e) [
+        | inl o ↦ elim (insert-if-from (p x) s y z o) [ inl q ↦ inl q | inr n ↦ inr (x, subst (λ v. Adjacent x v (x ∷ y ∷ ys)) (sym (n .1)) here, n .0) ]
+        | inr r ↦ inr (r .0, later (r .1), r .2)
+      ]
 
 -- Leftmost followers.
 
@@ -89,26 +90,28 @@ module _ (rules : List Production) (a : allBounded rules ≡ true) where
         start : (b : Bool) → endsIn startSymbol ≡ b → Sound (endMarkIf b)
         start true f y e = subst (LeftmostFollower rules z) (sym (only-from 0 y e)) (atEnd (right-corners-mean rules a startSymbol z (omega arith) .0 f))
         start false f y e = absurd (both-ways (has none y) (none-has symbolCount y) e)
+
         step : (k : ℕ) → InBook rules k → (s : Flags) → Sound s → Sound (gather s (ruleOf rules k))
         step k b s h y e =
-            elim (behind-from endsIn s (first (ruleOf rules k)) (drop 1 (ruleOf rules k .rhs)) y e)
-              [ inl o ↦ h y o
+            elim (behind-from endsIn s (first (ruleOf rules k)) (drop 1 (ruleOf rules k .rhs)) y e) [
+              | inl o ↦ h y o
               | inr r ↦
                   let n = subst (Adjacent (r .0) y) (whole k b) (r .1) in
-                  inside k (r .0) b n (right-corners-mean rules a (r .0) z (adjacent-in k (r .0) y b n .0) .0 (r .2)) ]
+                  inside k (r .0) b n (right-corners-mean rules a (r .0) z (adjacent-in k (r .0) y b n .0) .0 (r .2))
+            ]
 
     gathered-has : (y : ℕ) → LeftmostFollower rules z y → has (leftmostOf (corners final rules) rules z) y ≡ true
     gathered-has y (inside k x b n c) =
         through-brings gather (λ s. length s ≡ symbolCount) (λ s. has s y ≡ true) rules
-          (λ p s l. behind-long endsIn s (first p) (drop 1 (p .rhs)) ∙ l)
-          (λ p s. behind-keeps endsIn s (first p) (drop 1 (p .rhs)) y)
-          (ruleOf rules k) (rule-in rules k b)
-          (λ s l. behind-has endsIn s (first (ruleOf rules k)) (drop 1 (ruleOf rules k .rhs)) x y (subst (Adjacent x y) (sym (whole k b)) n)
-                    (right-corners-mean rules a x z (adjacent-in k x y b n .0) .1 c) (omega (arith, adjacent-in k x y b n .1)))
-          (endMarkIf (endsIn startSymbol)) (end-mark-long (endsIn startSymbol))
+        (λ p s l. behind-long endsIn s (first p) (drop 1 (p .rhs)) ∙ l)
+        (λ p s. behind-keeps endsIn s (first p) (drop 1 (p .rhs)) y)
+        (ruleOf rules k) (rule-in rules k b)
+        (λ s l. behind-has endsIn s (first (ruleOf rules k)) (drop 1 (ruleOf rules k .rhs)) x y (subst (Adjacent x y) (sym (whole k b)) n)
+        (right-corners-mean rules a x z (adjacent-in k x y b n .0) .1 c) (omega (arith, adjacent-in k x y b n .1)))
+        (endMarkIf (endsIn startSymbol)) (end-mark-long (endsIn startSymbol))
     gathered-has y (atEnd c) =
         through-keeps gather (λ s. has s 0 ≡ true) rules (λ p m s. behind-keeps endsIn s (first p) (drop 1 (p .rhs)) 0)
-          (endMarkIf (endsIn startSymbol)) (ap (λ b. has (endMarkIf b) 0) (right-corners-mean rules a startSymbol z (omega arith) .1 c))
+        (endMarkIf (endsIn startSymbol)) (ap (λ b. has (endMarkIf b) 0) (right-corners-mean rules a startSymbol z (omega arith) .1 c))
 
 pub leftmost-followers-mean : Leftmost-followers-mean
 leftmost-followers-mean rules a z y h =
@@ -129,22 +132,25 @@ union-of-has f s (x ∷ ys) y z (inr m) e = union-of-has f (union s (f x)) ys y 
 union-of-from : (f : ℕ → Flags) (s : Flags) (ys : List ℕ) (z : ℕ) → has (unionOf s (map f ys)) z ≡ true → (has s z ≡ true) ⊎ ((y : ℕ) × In y ys × (has (f y) z ≡ true))
 union-of-from f s [] z e = inl e
 union-of-from f s (x ∷ ys) z e =
-    elim (union-of-from f (union s (f x)) ys z e)
-      [ inl o ↦ elim (union-from s (f x) z o) [ inl q ↦ inl q | inr q ↦ inr (x, inl refl, q) ]
-      | inr r ↦ inr (r .0, inr (r .1), r .2) ]
+    elim (union-of-from f (union s (f x)) ys z e) [
+      | inl o ↦ elim (union-from s (f x) z o) [ inl q ↦ inl q | inr q ↦ inr (x, inl refl, q) ]
+      | inr r ↦ inr (r .0, inr (r .1), r .2)
+    ]
 
 pub followers-mean : Followers-mean
 followers-mean rules a x z h =
     let leftmost : Flags = getD (relationsOf rules .leftmosts) x [] in
     let lefts : ℕ → Flags = λ y. getD (corners first rules) y [] in
     let at : getD (relationsOf rules .followers) x [] ≡ followersOf (corners first rules) leftmost =
-      getD-map (followersOf (corners first rules)) (relationsOf rules .leftmosts) x [] [] h in
-    (λ e. elim (union-of-from lefts none (keep (has leftmost) codes) z (sym (ap (λ s. has s z) at) ∙ e))
-            [ inl o ↦ absurd (both-ways (has none z) (none-has symbolCount z) o)
-            | inr r ↦
-                let f : LeftmostFollower rules x (r .0) = leftmost-followers-mean rules a x (r .0) h .0 (keep-from (has leftmost) codes (r .0) (r .1)) in
-                record { leftmost = r .0; follows = f; corner = left-corners-mean rules a (r .0) z (leftmost-in rules a x (r .0) f) .0 (r .2) } ],
-     λ f. ap (λ s. has s z) at
-       ∙ union-of-has lefts none (keep (has leftmost) codes) (f .leftmost) z
-           (keep-has (has leftmost) codes (f .leftmost) (leftmost-followers-mean rules a x (f .leftmost) h .1 (f .follows)) (in-codes (f .leftmost) (leftmost-in rules a x (f .leftmost) (f .follows))))
-           (left-corners-mean rules a (f .leftmost) z (leftmost-in rules a x (f .leftmost) (f .follows)) .1 (f .corner)))
+    getD-map (followersOf (corners first rules)) (relationsOf rules .leftmosts) x [] [] h in (
+      λ e. elim (union-of-from lefts none (keep (has leftmost) codes) z (sym (ap (λ s. has s z) at) ∙ e)) [
+        | inl o ↦ absurd (both-ways (has none z) (none-has symbolCount z) o)
+        | inr r ↦
+            let f : LeftmostFollower rules x (r .0) = leftmost-followers-mean rules a x (r .0) h .0 (keep-from (has leftmost) codes (r .0) (r .1)) in
+            record { leftmost = r .0; follows = f; corner = left-corners-mean rules a (r .0) z (leftmost-in rules a x (r .0) f) .0 (r .2) }
+      ],
+      λ f. ap (λ s. has s z) at
+          ∙ union-of-has lefts none (keep (has leftmost) codes) (f .leftmost) z
+          (keep-has (has leftmost) codes (f .leftmost) (leftmost-followers-mean rules a x (f .leftmost) h .1 (f .follows)) (in-codes (f .leftmost) (leftmost-in rules a x (f .leftmost) (f .follows))))
+          (left-corners-mean rules a (f .leftmost) z (leftmost-in rules a x (f .leftmost) (f .follows)) .1 (f .corner)),
+    )

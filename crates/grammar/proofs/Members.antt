@@ -65,14 +65,14 @@ pub insert-all-from : (s : Flags) (xs : List ℕ) (y : ℕ) → has (insertAll s
 insert-all-from s [] y e = inl e
 insert-all-from s (x ∷ xs) y e =
     elim (insert-all-from (insert s x) xs y e)
-      [ inl h ↦ elim (insert-from s x y h) [ inl q ↦ inl q | inr p ↦ inr (inl p) ] | inr i ↦ inr (inr i) ]
+    [ inl h ↦ elim (insert-from s x y h) [ inl q ↦ inl q | inr p ↦ inr (inl p) ] | inr i ↦ inr (inr i) ]
 
 pub insert-all-long : (s : Flags) (xs : List ℕ) → length (insertAll s xs) ≡ length s
 insert-all-long s xs = through-long insert (λ x. x < symbolCount) (λ t x. has t x ≡ true) insert-long insert-one-or xs s
 
 -- all that is put in is in already, or fewer are left
 pub insert-all-or : (s : Flags) (xs : List ℕ) → ((x : ℕ) → In x xs → x < symbolCount) → length s ≡ symbolCount
-  → (((x : ℕ) → In x xs → has s x ≡ true) × (insertAll s xs ≡ s)) ⊎ (unset (insertAll s xs) < unset s)
+    → (((x : ℕ) → In x xs → has s x ≡ true) × (insertAll s xs ≡ s)) ⊎ (unset (insertAll s xs) < unset s)
 insert-all-or s xs ok l = through-or insert (λ x. x < symbolCount) (λ t x. has t x ≡ true) insert-long insert-one-or xs ok s l
 
 -- A set that takes the place of another if a test passes.

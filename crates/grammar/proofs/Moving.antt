@@ -56,7 +56,7 @@ onward-long x (l ∷ ls) (row ∷ rows) e = let z : length rows ≡ length ls = 
 
 -- a row of the next kernel, where there is a rule and a row
 moved-row : (x : ℕ) (ls : List Production) (rows : Items) (r : ℕ) → r < length ls → r < length rows
-  → getD (onward x ls rows) r [] ≡ false ∷ before x (lineAt ls r .rhs) (take longestRight (getD rows r []))
+    → getD (onward x ls rows) r [] ≡ false ∷ before x (lineAt ls r .rhs) (take longestRight (getD rows r []))
 moved-row x [] rows r h i = absurd (omega arith)
 moved-row x (l ∷ ls) [] r h i = absurd (omega arith)
 moved-row x (l ∷ ls) (row ∷ rows) zero h i = refl
@@ -89,7 +89,7 @@ module _ (rules : List Production) (b : allBounded rules ≡ true) (items : Item
       let h : r < length (numbered rules) = omega (arith, held-row items r d e, sh .rows) in
       let small : d < longestRight = omega (arith, rule-fits rules b r .size, at .0) in
       subst (λ row. has row (suc d) ≡ true) (sym (row-is r h))
-        (before-has x (ruleOf rules r .rhs) (take longestRight (getD items r [])) d (getD-take longestRight (getD items r []) d false small ∙ e) (at .0) (at .1))
+      (before-has x (ruleOf rules r .rhs) (take longestRight (getD items r [])) d (getD-take longestRight (getD items r []) d false small ∙ e) (at .0) (at .1))
 
   next-row-long : (r : ℕ) → r < length (numbered rules) → length (getD next r []) ≡ dotCount
   next-row-long r h =
@@ -103,9 +103,10 @@ module _ (rules : List Production) (b : allBounded rules ≡ true) (items : Item
       go _ (moved {d} {ws} f behind) = omega (arith, behind-at (ruleOf rules r .rhs) d x ws behind .0)
 
 pub next-means : Next-means
-next-means rules b items sh x =
-    (record { rows = next-long rules b items sh x; dots = next-row-long rules b items sh x; within = next-within rules b items sh x },
-     λ r d. (next-from rules b items sh x r d, next-has rules b items sh x r d))
+next-means rules b items sh x = (
+  record { rows = next-long rules b items sh x; dots = next-row-long rules b items sh x; within = next-within rules b items sh x },
+  λ r d. (next-from rules b items sh x r d, next-has rules b items sh x r d),
+)
 
 -- The kernel of state 0.
 
@@ -121,6 +122,7 @@ start-holds rules r d = (from r, to)
     from : (q : ℕ) → Holds (startKernel (numbered rules)) q d → (q ≡ 0) × (d ≡ 0)
     from zero e = elim (insert-from noDots 0 d e) [ inl p ↦ absurd (both-ways _ (none-has dotCount d) p) | inr p ↦ (refl, p) ]
     from (suc q) e = absurd (no-rows (length rules) q d e)
+
     to : (r ≡ 0) × (d ≡ 0) → Holds (startKernel (numbered rules)) r d
     to p = ap (λ q. has (getD (startKernel (numbered rules)) q []) d) (p .0) ∙ ap (has (insert noDots 0)) (p .1)
 

@@ -67,10 +67,11 @@ open-row-long t (row ∷ rows) zero = insert-if-long (t 0) row 0
 open-row-long t (row ∷ rows) (suc q) = open-row-long (λ i. t (suc i)) rows q
 
 pub open-shaped : (rules : List Production) (t : ℕ → Bool) (items : Items) → Shaped rules items → Shaped rules (openBy t items)
-open-shaped rules t items sh = record
-    { rows = open-long t items ∙ sh .rows
-    ; dots = λ r h. open-row-long t items r ∙ sh .dots r h
-    ; within = inside }
+open-shaped rules t items sh = record {
+  rows = open-long t items ∙ sh .rows;
+  dots = λ r h. open-row-long t items r ∙ sh .dots r h;
+  within = inside;
+}
   where
     inside : (r d : ℕ) → Holds (openBy t items) r d → d ≤ length (ruleOf rules r .rhs)
     inside r d e = elim (open-from t items r d e) [ inl p ↦ sh .within r d p | inr p ↦ omega (arith, p .2) ]
@@ -104,7 +105,7 @@ open-or t [] = inl refl
 open-or t (row ∷ rows) = join (insertIf (t 0) row 0) (openBy (λ q. t (suc q)) rows) (row-or (t 0) row) (open-or (λ q. t (suc q)) rows)
   where
     join : (new : Flags) (more : Items) → (new ≡ row) ⊎ (counted (has new 0) < counted (has row 0)) → (more ≡ rows) ⊎ (missing more < missing rows)
-      → (new ∷ more ≡ row ∷ rows) ⊎ (missing (new ∷ more) < missing (row ∷ rows))
+        → (new ∷ more ≡ row ∷ rows) ⊎ (missing (new ∷ more) < missing (row ∷ rows))
     join new more (inl p) (inl q) = inl cc
     join new more (inl p) (inr q) = let z : counted (has new 0) ≡ counted (has row 0) = ap (λ y. counted (has y 0)) p in inr (omega arith)
     join new more (inr p) (inl q) = let z : missing more ≡ missing rows = ap missing q in inr (omega arith)

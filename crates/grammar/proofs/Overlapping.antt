@@ -25,10 +25,10 @@ read-row-done s ws row d (inl h) = ap (λ t. readRow s t (drop d row)) (drop-all
 read-row-done s ws row d (inr h) = ap (readRow s (drop d ws)) (drop-all d row h) ∙ read-row-end s (drop d ws)
 
 pub read-row-more : (s : Flags) (ws : List ℕ) (row : Flags) (d : ℕ) (t : Bool) → d < length ws → d < length row → has row d ≡ t
-  → readRow s (drop d ws) (drop d row) ≡ readRow (elim t [ true ↦ insert s (getD ws d 0) | false ↦ s ]) (drop (d + 1) ws) (drop (d + 1) row)
+    → readRow s (drop d ws) (drop d row) ≡ readRow (elim t [ true ↦ insert s (getD ws d 0) | false ↦ s ]) (drop (d + 1) ws) (drop (d + 1) row)
 read-row-more s ws row d t h k e =
     let step : readRow s (drop d ws) (drop d row) ≡ readRow (elim (has row d) [ true ↦ insert s (getD ws d 0) | false ↦ s ]) (drop (d + 1) ws) (drop (d + 1) row) =
-      at-drops-more (readRow s) ws row d 0 false h k in
+    at-drops-more (readRow s) ws row d 0 false h k in
     step ∙ ap (λ b. readRow (elim b [ true ↦ insert s (getD ws d 0) | false ↦ s ]) (drop (d + 1) ws) (drop (d + 1) row)) e
 
 read-rows-end : (s : Flags) (ls : List Production) → readRows s ls [] ≡ s
@@ -40,7 +40,7 @@ read-rows-done s ls rows k (inl h) = ap (λ t. readRows s t (drop k rows)) (drop
 read-rows-done s ls rows k (inr h) = ap (readRows s (drop k ls)) (drop-all k rows h) ∙ read-rows-end s (drop k ls)
 
 pub read-rows-more : (s : Flags) (ls : List Production) (rows : Items) (k : ℕ) → k < length ls → k < length rows
-  → readRows s (drop k ls) (drop k rows) ≡ readRows (readRow s (getD ls k outer .rhs) (getD rows k [])) (drop (k + 1) ls) (drop (k + 1) rows)
+    → readRows s (drop k ls) (drop k rows) ≡ readRows (readRow s (getD ls k outer .rhs) (getD rows k [])) (drop (k + 1) ls) (drop (k + 1) rows)
 read-rows-more s ls rows k h i = at-drops-more (readRows s) ls rows k outer [] h i
 
 -- Lookaheads of the book's own rules are what the policy says.
@@ -66,7 +66,7 @@ module _ (lookahead : ℕ → Flags) (p : ℕ → Bool) (n k : ℕ) (seen : Flag
   overlap-here h e m = turn h true e ∙ meeting true m
 
   pub overlap-on : k < n → p k ≡ true → meets seen (lookahead k) ≡ false
-    → overlap seen (map lookahead (keep p (upFrom k (n - k)))) ≡ overlap (union seen (lookahead k)) (map lookahead (keep p (upFrom (k + 1) (n - (k + 1)))))
+      → overlap seen (map lookahead (keep p (upFrom k (n - k)))) ≡ overlap (union seen (lookahead k)) (map lookahead (keep p (upFrom (k + 1) (n - (k + 1)))))
   overlap-on h e m = turn h true e ∙ meeting false m
 
   pub overlap-past : k < n → p k ≡ false → overlap seen (map lookahead (keep p (upFrom k (n - k)))) ≡ overlap seen (map lookahead (keep p (upFrom (k + 1) (n - (k + 1)))))

@@ -33,7 +33,7 @@ pub slr-if-adequate-lawful : (below : Policy) → Lawful below → Lawful (slrIf
 slr-if-adequate-lawful below lawful rules a items r y b f =
     let rel : Relations = relationsOf rules in
     either-says (conflicting (slr rel items) (reads (rel .lines) items) (completeIn (rel .lines) items)) (below rel items) (slr rel items) r y
-      (lawful rules a items r y b f) (slr-lawful rules a items r y b f)
+    (lawful rules a items r y b f) (slr-lawful rules a items r y b f)
 
 pub policies-lawful : Policies-lawful
 policies-lawful = (slr-lawful, leftmost-follow-lawful, slr-if-adequate-lawful)

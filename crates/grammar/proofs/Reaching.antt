@@ -24,7 +24,7 @@ step-long : (s : Flags) (p : Production) → length (reachStep s p) ≡ length s
 step-long s p = put-if-keeps (λ t. length t ≡ length s) (has s (p .lhs)) (insertAll s (p .rhs)) s refl (λ e. insert-all-long s (p .rhs))
 
 step-or : (s : Flags) (p : Production) → ((x : ℕ) → In x (p .rhs) → x < symbolCount) → length s ≡ symbolCount
-  → (Followed s p × (reachStep s p ≡ s)) ⊎ (unset (reachStep s p) < unset s)
+    → (Followed s p × (reachStep s p ≡ s)) ⊎ (unset (reachStep s p) < unset s)
 step-or s p ok l = put-if-or ((x : ℕ) → In x (p .rhs) → has s x ≡ true) (has s (p .lhs)) (insertAll s (p .rhs)) s (insert-all-or s (p .rhs) ok l)
 
 module _ (rules : List Production) where
@@ -39,17 +39,17 @@ module _ (rules : List Production) where
   sound =
       let P : Flags → Type 0 = λ s. (x : ℕ) → has s x ≡ true → Reached rules x in
       saturate-keeps reachStep P rules
-        (λ s p i h. put-if-keeps P (has s (p .lhs)) (insertAll s (p .rhs)) s h (λ e x k. elim (insert-all-from s (p .rhs) x k) [ inl was ↦ h x was | inr j ↦ reaches p i (h (p .lhs) e) x j ]))
-        (only startSymbol) (λ x e. subst (Reached rules) (sym (only-from startSymbol x e)) start)
+      (λ s p i h. put-if-keeps P (has s (p .lhs)) (insertAll s (p .rhs)) s h (λ e x k. elim (insert-all-from s (p .rhs) x k) [ inl was ↦ h x was | inr j ↦ reaches p i (h (p .lhs) e) x j ]))
+      (only startSymbol) (λ x e. subst (Reached rules) (sym (only-from startSymbol x e)) start)
 
   complete : allBounded rules ≡ true → (x : ℕ) → Reached rules x → has (reachedIn rules) x ≡ true
   complete bounded x start =
       saturate-keeps reachStep (λ s. has s startSymbol ≡ true) rules
-        (λ s p i h. put-if-keeps (λ t. has t startSymbol ≡ true) (has s (p .lhs)) (insertAll s (p .rhs)) s h (λ e. insert-all-keeps s (p .rhs) startSymbol h))
-        (only startSymbol) (only-has startSymbol (lit< tt))
+      (λ s p i h. put-if-keeps (λ t. has t startSymbol ≡ true) (has s (p .lhs)) (insertAll s (p .rhs)) s h (λ e. insert-all-keeps s (p .rhs) startSymbol h))
+      (only startSymbol) (only-has startSymbol (lit< tt))
   complete bounded x (onto k b h m) =
       saturated reachStep (λ p. (y : ℕ) → In y (p .rhs) → y < symbolCount) Followed step-long step-or rules (right-below rules bounded) (only startSymbol) (length-only startSymbol) .1
-        (ruleOf rules k) (rule-in rules k b) (complete bounded (ruleOf rules k .lhs) h) x (member-listed m)
+      (ruleOf rules k) (rule-in rules k b) (complete bounded (ruleOf rules k .lhs) h) x (member-listed m)
 
 pub reached-means : Reached-means
 reached-means rules bounded x = (sound rules x, complete rules bounded x)

@@ -31,16 +31,18 @@ outer-fits = record { size = omega arith; symbols = go }
     go (suc d) h = absurd (omega arith)
 
 in-book-fits : (rules : List Production) → allBounded rules ≡ true → (r : ℕ) → InBook rules r → Fits (ruleOf rules r)
-in-book-fits rules b r i = record
-    { size = size-in rules b r i .1
-    ; symbols = λ d h. let p = symbol-in rules b r i d h in (p .0, omega (arith, p .1)) }
+in-book-fits rules b r i = record {
+  size = size-in rules b r i .1;
+  symbols = λ d h. let p = symbol-in rules b r i d h in (p .0, omega (arith, p .1));
+}
 
 pub rule-fits : (rules : List Production) → allBounded rules ≡ true → (r : ℕ) → Fits (ruleOf rules r)
 rule-fits rules b zero = outer-fits
 rule-fits rules b (suc k) =
-    elim (cases-lt k (length rules))
-      [ inl h ↦ in-book-fits rules b (suc k) record { low = omega arith; high = omega arith }
-      | inr h ↦ subst Fits (sym (getD-past rules k outer h)) outer-fits ]
+    elim (cases-lt k (length rules)) [
+      | inl h ↦ in-book-fits rules b (suc k) record { low = omega arith; high = omega arith }
+      | inr h ↦ subst Fits (sym (getD-past rules k outer h)) outer-fits
+    ]
 
 pub left-is-symbol : (rules : List Production) → allBounded rules ≡ true → (r : ℕ) → InBook rules r → ruleOf rules r .lhs < symbolCount
 left-is-symbol rules b r i = omega (arith, left-in rules b r i .1)

@@ -25,12 +25,13 @@ times-keeps f P keeps (suc n) a p = times-keeps f P keeps n (f a) (keeps a p)
 
 -- a function that changes nothing or lowers a number comes to rest
 pub rests : {A : Type 0} (f : A → A) (P : A → Type 0) (μ : A → ℕ) → ((a : A) → P a → P (f a)) → ((a : A) → P a → (f a ≡ a) ⊎ (μ (f a) < μ a))
-  → (n : ℕ) (a : A) → P a → μ a ≤ n → (f (times f n a) ≡ times f n a) × P (times f n a)
+    → (n : ℕ) (a : A) → P a → μ a ≤ n → (f (times f n a) ≡ times f n a) × P (times f n a)
 rests f P μ keeps or zero a p h = elim (or a p) [ inl e ↦ (e, p) | inr l ↦ absurd (omega arith) ]
 rests f P μ keeps or (suc n) a p h =
-    elim (or a p)
-      [ inl e ↦ let t = times-still f (suc n) a e in (ap f t ∙ e ∙ sym t, subst P (sym t) p)
-      | inr l ↦ rests f P μ keeps or n (f a) (keeps a p) (omega arith) ]
+    elim (or a p) [
+      | inl e ↦ let t = times-still f (suc n) a e in (ap f t ∙ e ∙ sym t, subst P (sym t) p)
+      | inr l ↦ rests f P μ keeps or n (f a) (keeps a p) (omega arith)
+    ]
 
 -- Flags.
 
@@ -51,9 +52,10 @@ insert-same (b ∷ s) (suc x) e = insert-same s x e
 -- what is in the set stays in
 pub insert-keeps : (s : Flags) (x y : ℕ) → has s y ≡ true → has (insert s x) y ≡ true
 insert-keeps s x y e =
-    elim (cases-eq y x)
-      [ inl p ↦ ap (has (insert s x)) p ∙ insert-same s x (subst (λ z. has s z ≡ true) p e)
-      | inr n ↦ getD-set-other s x y true false n ∙ e ]
+    elim (cases-eq y x) [
+      | inl p ↦ ap (has (insert s x)) p ∙ insert-same s x (subst (λ z. has s z ≡ true) p e)
+      | inr n ↦ getD-set-other s x y true false n ∙ e
+    ]
 
 -- what is in was in, or is what was put in
 pub insert-from : (s : Flags) (x y : ℕ) → has (insert s x) y ≡ true → (has s y ≡ true) ⊎ (y ≡ x)
@@ -96,22 +98,24 @@ module _ {A : Type 0} (step : Flags → A → Flags) (Ok : A → Type 0) (Done :
   through-long (r ∷ rs) s = through-long rs (step s r) ∙ long s r
 
   pub through-or : (rs : List A) → ((r : A) → In r rs → Ok r) → (s : Flags) → length s ≡ symbolCount
-    → (((r : A) → In r rs → Done s r) × (through step rs s ≡ s)) ⊎ (unset (through step rs s) < unset s)
+      → (((r : A) → In r rs → Done s r) × (through step rs s ≡ s)) ⊎ (unset (through step rs s) < unset s)
   through-or [] ok s l = inl (λ r i. absurd i, refl)
   through-or (r ∷ rs) ok s l =
-      elim (or s r (ok r (inl refl)) l)
-        [ inl d ↦
+      elim (or s r (ok r (inl refl)) l) [
+        | inl d ↦
             let e : through step rs (step s r) ≡ through step rs s = ap (through step rs) (d .1) in
-            elim (through-or rs (λ q i. ok q (inr i)) s l)
-              [ inl k ↦ inl (λ q i. elim i [ inl p ↦ subst (Done s) (sym p) (d .0) | inr j ↦ k .0 q j ], e ∙ k .1)
-              | inr m ↦ inr (rw e m) ]
+            elim (through-or rs (λ q i. ok q (inr i)) s l) [
+              | inl k ↦ inl (λ q i. elim i [ inl p ↦ subst (Done s) (sym p) (d .0) | inr j ↦ k .0 q j ], e ∙ k .1)
+              | inr m ↦ inr (rw e m)
+            ]
         | inr m ↦
             elim (through-or rs (λ q i. ok q (inr i)) (step s r) (long s r ∙ l))
-              [ inl k ↦ inr (rw (k .1) m) | inr o ↦ inr (omega arith) ] ]
+            [ inl k ↦ inr (rw (k .1) m) | inr o ↦ inr (omega arith) ]
+      ]
 
   -- in the end every element is done
   pub saturated : (rs : List A) → ((r : A) → In r rs → Ok r) → (s : Flags) → length s ≡ symbolCount
-    → (length (saturate step rs s) ≡ symbolCount) × ((r : A) → In r rs → Done (saturate step rs s) r)
+      → (length (saturate step rs s) ≡ symbolCount) × ((r : A) → In r rs → Done (saturate step rs s) r)
   saturated rs ok s l =
       let f : Flags → Flags = through step rs in
       let P : Flags → Type 0 = λ t. length t ≡ symbolCount in

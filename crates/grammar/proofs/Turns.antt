@@ -37,7 +37,7 @@ table-more g k = let e : k + 1 ≡ suc k = omega arith in ap (λ m. map g (upFro
 
 -- a place of a table of n is filled
 pub fill-more : {A : Type 0} (g : ℕ → A) (n : ℕ) (all : List A) (x : ℕ) (v : A) → x < n → length all ≡ n → v ≡ g x → take x all ≡ map g (upFrom 0 x)
-  → (length (set all x v) ≡ n) × (take (x + 1) (set all x v) ≡ map g (upFrom 0 (x + 1)))
+    → (length (set all x v) ≡ n) × (take (x + 1) (set all x v) ≡ map g (upFrom 0 (x + 1)))
 fill-more g n all x v h l e inv =
     (length-set all x v ∙ l, take-more-set all x v (omega arith) ∙ ap₂ (λ t w. t ++ w ∷ []) inv e ∙ sym (table-more g x))
 
@@ -50,8 +50,8 @@ fill-done g n all x low high l inv =
 module _ (p : ℕ → Bool) (n x : ℕ) where
   lowest-turn : x < n → (t : Bool) → p x ≡ t → lowest p (upFrom x (n - x)) ≡ elim t [ true ↦ Some x | false ↦ lowest p (upFrom (x + 1) (n - (x + 1))) ]
   lowest-turn h t e =
-    let step : lowest p (upFrom x (n - x)) ≡ elim (p x) [ true ↦ Some x | false ↦ lowest p (upFrom (x + 1) (n - (x + 1))) ] = ap (lowest p) (up-more n x h) in
-    step ∙ ap (λ b. elim b [ true ↦ Some x | false ↦ lowest p (upFrom (x + 1) (n - (x + 1))) ]) e
+      let step : lowest p (upFrom x (n - x)) ≡ elim (p x) [ true ↦ Some x | false ↦ lowest p (upFrom (x + 1) (n - (x + 1))) ] = ap (lowest p) (up-more n x h) in
+      step ∙ ap (λ b. elim b [ true ↦ Some x | false ↦ lowest p (upFrom (x + 1) (n - (x + 1))) ]) e
 
   pub lowest-here : x < n → p x ≡ true → lowest p (upFrom x (n - x)) ≡ Some x
   lowest-here h e = lowest-turn h true e
@@ -64,19 +64,19 @@ module _ (p : ℕ → Bool) (n x : ℕ) where
 
 -- a list that is changed in place, element by element, beside another
 pub beside-more : {X Y : Type 0} (F : List X → List Y → List Y) (g : X → Y → Y)
-  → ((x : X) (xs : List X) (y : Y) (ys : List Y) → F (x ∷ xs) (y ∷ ys) ≡ g x y ∷ F xs ys)
-  → (xs : List X) (ys : List Y) (k : ℕ) (d : X) (e v : Y) → k < length xs → k < length ys → v ≡ g (getD xs k d) (getD ys k e)
-  → take (k + 1) (set ys k v) ++ F (drop (k + 1) xs) (drop (k + 1) (set ys k v)) ≡ take k ys ++ F (drop k xs) (drop k ys)
+    → ((x : X) (xs : List X) (y : Y) (ys : List Y) → F (x ∷ xs) (y ∷ ys) ≡ g x y ∷ F xs ys)
+    → (xs : List X) (ys : List Y) (k : ℕ) (d : X) (e v : Y) → k < length xs → k < length ys → v ≡ g (getD xs k d) (getD ys k e)
+    → take (k + 1) (set ys k v) ++ F (drop (k + 1) xs) (drop (k + 1) (set ys k v)) ≡ take k ys ++ F (drop k xs) (drop k ys)
 beside-more F g step xs ys k d e v h i is =
     let f : F (drop k xs) (drop k ys) ≡ g (getD xs k d) (getD ys k e) ∷ F (drop (k + 1) xs) (drop (k + 1) ys) =
-      ap (λ q. F q (drop k ys)) (drop-more xs k d h) ∙ ap (F (getD xs k d ∷ drop (k + 1) xs)) (drop-more ys k e i) ∙ step _ _ _ _ in
+    ap (λ q. F q (drop k ys)) (drop-more xs k d h) ∙ ap (F (getD xs k d ∷ drop (k + 1) xs)) (drop-more ys k e i) ∙ step _ _ _ _ in
     ap₂ (λ t u. t ++ F (drop (k + 1) xs) u) (take-more-set ys k v i) (drop-set-lt (k + 1) ys k v (omega arith))
     ∙ append-assoc (take k ys) (v ∷ []) (F (drop (k + 1) xs) (drop (k + 1) ys))
     ∙ ap (λ w. take k ys ++ w ∷ F (drop (k + 1) xs) (drop (k + 1) ys)) is ∙ ap (λ q. take k ys ++ q) (sym f)
 
 -- the numbers that pass a test, from x up to n
 pub keep-more : (p : ℕ → Bool) (n x : ℕ) → x < n → (t : Bool) → p x ≡ t
-  → keep p (upFrom x (n - x)) ≡ elim t [ true ↦ x ∷ keep p (upFrom (x + 1) (n - (x + 1))) | false ↦ keep p (upFrom (x + 1) (n - (x + 1))) ]
+    → keep p (upFrom x (n - x)) ≡ elim t [ true ↦ x ∷ keep p (upFrom (x + 1) (n - (x + 1))) | false ↦ keep p (upFrom (x + 1) (n - (x + 1))) ]
 keep-more p n x h t e =
     let rest = keep p (upFrom (x + 1) (n - (x + 1))) in
     let step : keep p (upFrom x (n - x)) ≡ elim (p x) [ true ↦ x ∷ rest | false ↦ rest ] = ap (keep p) (up-more n x h) in
@@ -86,8 +86,8 @@ keep-more p n x h t e =
 module _ (p : ℕ → Bool) (n x : ℕ) where
   any-turn : x < n → (t : Bool) → p x ≡ t → any p (upFrom x (n - x)) ≡ elim t [ true ↦ true | false ↦ any p (upFrom (x + 1) (n - (x + 1))) ]
   any-turn h t e =
-    let step : any p (upFrom x (n - x)) ≡ elim (p x) [ true ↦ true | false ↦ any p (upFrom (x + 1) (n - (x + 1))) ] = ap (any p) (up-more n x h) in
-    step ∙ ap (λ b. elim b [ true ↦ true | false ↦ any p (upFrom (x + 1) (n - (x + 1))) ]) e
+      let step : any p (upFrom x (n - x)) ≡ elim (p x) [ true ↦ true | false ↦ any p (upFrom (x + 1) (n - (x + 1))) ] = ap (any p) (up-more n x h) in
+      step ∙ ap (λ b. elim b [ true ↦ true | false ↦ any p (upFrom (x + 1) (n - (x + 1))) ]) e
 
   pub any-here : x < n → p x ≡ true → any p (upFrom x (n - x)) ≡ true
   any-here h e = any-turn h true e
@@ -100,5 +100,5 @@ module _ (p : ℕ → Bool) (n x : ℕ) where
 
 -- a function of what is left of two lists that are gone through side by side
 pub at-drops-more : {X Y Z : Type 0} (F : List X → List Y → Z) (xs : List X) (ys : List Y) (i : ℕ) (d : X) (e : Y) → i < length xs → i < length ys
-  → F (drop i xs) (drop i ys) ≡ F (getD xs i d ∷ drop (i + 1) xs) (getD ys i e ∷ drop (i + 1) ys)
+    → F (drop i xs) (drop i ys) ≡ F (getD xs i d ∷ drop (i + 1) xs) (getD ys i e ∷ drop (i + 1) ys)
 at-drops-more F xs ys i d e h k = ap₂ F (drop-more xs i d h) (drop-more ys i e k)

@@ -41,7 +41,7 @@ enter-keeps s p x e = insert-all-keeps (insert s (p .lhs)) (p .rhs) x (insert-ke
 enter-from : (s : Flags) (p : Production) (x : ℕ) → has (enter s p) x ≡ true → (has s x ≡ true) ⊎ Stands x p
 enter-from s p x e =
     elim (insert-all-from (insert s (p .lhs)) (p .rhs) x e)
-      [ inl h ↦ elim (insert-from s (p .lhs) x h) [ inl was ↦ inl was | inr is ↦ inr (inl is) ] | inr i ↦ inr (inr i) ]
+    [ inl h ↦ elim (insert-from s (p .lhs) x h) [ inl was ↦ inl was | inr is ↦ inr (inl is) ] | inr i ↦ inr (inr i) ]
 
 enter-has : (s : Flags) (p : Production) (x : ℕ) → x < length s → Stands x p → has (enter s p) x ≡ true
 enter-has s p x h (inl e) = insert-all-keeps (insert s (p .lhs)) (p .rhs) x (subst (λ y. has (insert s y) x ≡ true) e (insert-has s x h))
@@ -57,15 +57,16 @@ module _ (rules : List Production) where
   stands-occurs : (p : Production) → In p rules → (x : ℕ) → Stands x p → Occurs rules x
   stands-occurs p i x on =
       let r = number-of rules p i in
-      elim on
-        [ inl e ↦ onLeft (r .0) (r .1) (ap (λ q. q .lhs) (r .2) ∙ sym e)
-        | inr j ↦ onRight (r .0) (r .1) (listed-member x (ruleOf rules (r .0) .rhs) (subst (λ q. In x (q .rhs)) (sym (r .2)) j)) ]
+      elim on [
+        | inl e ↦ onLeft (r .0) (r .1) (ap (λ q. q .lhs) (r .2) ∙ sym e)
+        | inr j ↦ onRight (r .0) (r .1) (listed-member x (ruleOf rules (r .0) .rhs) (subst (λ q. In x (q .rhs)) (sym (r .2)) j))
+      ]
 
   occurs-from : (x : ℕ) → has (occurringIn rules) x ≡ true → Occurs rules x
   occurs-from =
       through-keeps enter (λ s. (x : ℕ) → has s x ≡ true → Occurs rules x) rules
-        (λ s p i h x e. elim (enter-from s p x e) [ inl was ↦ h x was | inr on ↦ stands-occurs p i x on ])
-        (only startSymbol) (λ x e. subst (Occurs rules) (sym (only-from startSymbol x e)) asStart)
+      (λ s p i h x e. elim (enter-from s p x e) [ inl was ↦ h x was | inr on ↦ stands-occurs p i x on ])
+      (only startSymbol) (λ x e. subst (Occurs rules) (sym (only-from startSymbol x e)) asStart)
 
   in-rule : (p : Production) → In p rules → (x : ℕ) → x < symbolCount → Stands x p → has (occurringIn rules) x ≡ true
   in-rule p i x h on = through-has rules (only startSymbol) p x i (omega (arith, length-only startSymbol)) on
@@ -94,18 +95,20 @@ module _ (rules : List Production) (bounded : allBounded rules ≡ true) where
       let r = has (reachedIn rules) x in
       let y = has (yieldingIn rules) x in
       let parts = and-parts (has (occurringIn rules) x) (not (r && y)) e in
-      record
-        { occurs = occurs-from rules x (parts .0)
-        ; idle = λ reached yields. both-ways (r && y) (not-true (r && y) (parts .1)) (and-from r y (reached-means rules bounded x .1 reached) (yields-means rules bounded x .1 yields)) }
+      record {
+        occurs = occurs-from rules x (parts .0);
+        idle = λ reached yields. both-ways (r && y) (not-true (r && y) (parts .1)) (and-from r y (reached-means rules bounded x .1 reached) (yields-means rules bounded x .1 yields));
+      }
 
   useless-test : (x : ℕ) → Useless rules x → test rules x ≡ true
   useless-test x u =
       let r = has (reachedIn rules) x in
       let y = has (yieldingIn rules) x in
       and-from (has (occurringIn rules) x) (not (r && y)) (occurs-has x (u .occurs))
-        (elim (cases-bool (r && y))
-          [ inl e ↦ let p = and-parts r y e in absurd (u .idle (reached-means rules bounded x .0 (p .0)) (yields-means rules bounded x .0 (p .1)))
-          | inr e ↦ not-from-false (r && y) e ])
+      (elim (cases-bool (r && y)) [
+        | inl e ↦ let p = and-parts r y e in absurd (u .idle (reached-means rules bounded x .0 (p .0)) (yields-means rules bounded x .0 (p .1)))
+        | inr e ↦ not-from-false (r && y) e
+      ])
 
 -- The search.
 

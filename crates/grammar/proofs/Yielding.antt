@@ -52,16 +52,16 @@ module _ (rules : List Production) where
   sound =
       let P : Flags → Type 0 = λ s. (x : ℕ) → has s x ≡ true → Yields rules x in
       saturate-keeps yieldStep P rules
-        (λ s p i h. put-if-keeps P (every (has s) (p .rhs)) (insert s (p .lhs)) s h (λ e x k.
-          elim (insert-from s (p .lhs) x k)
-            [ inl was ↦ h x was | inr is ↦ subst (Yields rules) (sym is) (yields p i (λ y j. h y (every-in (has s) (p .rhs) e y j))) ]))
-        terminals (λ x e. terminal (sym (has-terminal x (has-below terminals x e)) ∙ e))
+      (λ s p i h. put-if-keeps P (every (has s) (p .rhs)) (insert s (p .lhs)) s h (λ e x k.
+      elim (insert-from s (p .lhs) x k)
+      [ inl was ↦ h x was | inr is ↦ subst (Yields rules) (sym is) (yields p i (λ y j. h y (every-in (has s) (p .rhs) e y j))) ]))
+      terminals (λ x e. terminal (sym (has-terminal x (has-below terminals x e)) ∙ e))
 
   complete : allBounded rules ≡ true → (x : ℕ) → Yields rules x → has (yieldingIn rules) x ≡ true
   complete bounded x (terminal t) =
       saturate-keeps yieldStep (λ s. has s x ≡ true) rules
-        (λ s p i h. put-if-keeps (λ t. has t x ≡ true) (every (has s) (p .rhs)) (insert s (p .lhs)) s h (λ e. insert-keeps s (p .lhs) x h))
-        terminals (has-terminal x (terminal-below x t) ∙ t)
+      (λ s p i h. put-if-keeps (λ t. has t x ≡ true) (every (has s) (p .rhs)) (insert s (p .lhs)) s h (λ e. insert-keeps s (p .lhs) x h))
+      terminals (has-terminal x (terminal-below x t) ∙ t)
   complete bounded x (byRule k b e f) =
       let done = saturated yieldStep (λ p. p .lhs < symbolCount) Yielded step-long step-or rules (left-below rules bounded) terminals refl .1 (ruleOf rules k) (rule-in rules k b) in
       ap (has (yieldingIn rules)) (sym e) ∙ done (in-every (has (yieldingIn rules)) (ruleOf rules k .rhs) (λ y i. complete bounded y (f y (listed-member y (ruleOf rules k .rhs) i))))

@@ -73,27 +73,27 @@ pub record Shaped (rules : List Production) (items : Items) : Type 0 where
 
 abbrev pub Closing-means : Type 0
 Closing-means = (rules : List Production) → allBounded rules ≡ true → (k : Items) → Shaped rules k
-  → Shaped rules (close (numbered rules) k) × ((r d : ℕ) → Holds (close (numbered rules) k) r d ↔ Closed rules (Holds k) r d)
+    → Shaped rules (close (numbered rules) k) × ((r d : ℕ) → Holds (close (numbered rules) k) r d ↔ Closed rules (Holds k) r d)
 
 abbrev pub Reads-mean : Type 0
 Reads-mean = (rules : List Production) → allBounded rules ≡ true → (items : Items) → Shaped rules items → (x : ℕ)
-  → (has (reads (numbered rules) items) x ≡ true) ↔ ((r d : ℕ) × (ws : List ℕ) × Holds items r d × (after rules r d ≡ x ∷ ws))
+    → (has (reads (numbered rules) items) x ≡ true) ↔ ((r d : ℕ) × (ws : List ℕ) × Holds items r d × (after rules r d ≡ x ∷ ws))
 
 -- the items of a state, from its kernel
 abbrev pub Expansion-means : Type 0
 Expansion-means = (rules : List Production) → allBounded rules ≡ true → (look : Look) → (k : Items) → Shaped rules k
-  → Shaped rules (expand (relationsOf rules) look (close (numbered rules) k))
+    → Shaped rules (expand (relationsOf rules) look (close (numbered rules) k))
     × ((r d : ℕ) → Holds (expand (relationsOf rules) look (close (numbered rules) k)) r d ↔ Expanded rules (Holds k) look r d)
 
 abbrev pub Next-means : Type 0
 Next-means = (rules : List Production) → allBounded rules ≡ true → (items : Items) → Shaped rules items → (x : ℕ)
-  → Shaped rules (onward x (numbered rules) items) × ((r d : ℕ) → Holds (onward x (numbered rules) items) r d ↔ Next rules (Holds items) x r d)
+    → Shaped rules (onward x (numbered rules) items) × ((r d : ℕ) → Holds (onward x (numbered rules) items) r d ↔ Next rules (Holds items) x r d)
 
 -- Policies. The law: every leftmost follower of the rule's left side gets yes.
 
 abbrev pub Lawful : Policy → Type 0
 Lawful policy = (rules : List Production) → allBounded rules ≡ true → (items : Items) (r y : ℕ) → InBook rules r
-  → LeftmostFollower rules (ruleOf rules r .lhs) y → policy (relationsOf rules) items r y ≡ true
+    → LeftmostFollower rules (ruleOf rules r .lhs) y → policy (relationsOf rules) items r y ≡ true
 
 abbrev pub Policies-lawful : Type 0
 Policies-lawful = Lawful slr × Lawful leftmostFollow × ((below : Policy) → Lawful below → Lawful (slrIfAdequate below))
@@ -141,7 +141,7 @@ pub record Tables-mean (rules : List Production) (policy : Policy) (rows : List 
   pub many : length rows ≡ length (kernelsOf policy (relationsOf rules))
   pub sole : (s x : ℕ) → s < length rows → x < symbolCount → Sole rules policy (getD (kernelsOf policy (relationsOf rules)) s []) x (getD (getD rows s []) x nothing)
   pub goes : (s x k : ℕ) → s < length rows → x < symbolCount → getD (getD rows s []) x nothing ≡ shift k
-    → (k < length rows) × (getD (kernelsOf policy (relationsOf rules)) k [] ≡ onward x (numbered rules) (itemsOf policy (relationsOf rules) (getD (kernelsOf policy (relationsOf rules)) s [])))
+      → (k < length rows) × (getD (kernelsOf policy (relationsOf rules)) k [] ≡ onward x (numbered rules) (itemsOf policy (relationsOf rules) (getD (kernelsOf policy (relationsOf rules)) s [])))
 
 -- two actions apply at a state and a symbol
 pub record Conflict (rules : List Production) (policy : Policy) (s x : ℕ) : Type 0 where

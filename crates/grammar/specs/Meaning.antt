@@ -93,7 +93,7 @@ pub data Closed (rules : List Production) (K : ItemSet) : ℕ → ℕ → Type 0
 pub data Expanded (rules : List Production) (K : ItemSet) (look : ℕ → ℕ → Bool) : ℕ → ℕ → Type 0 where
   closed : {r d : ℕ} → Closed rules K r d → Expanded rules K look r d
   expands : {r d y : ℕ} (q : ℕ) → Closed rules K r d → after rules r d ≡ [] → InBook rules r → LeftmostFollower rules (ruleOf rules r .lhs) y → isNonterminal y ≡ true
-    → InBook rules q → LeftCorner rules (ruleOf rules q .lhs) y → look r (first (ruleOf rules q)) ≡ false → Expanded rules K look q 0
+      → InBook rules q → LeftCorner rules (ruleOf rules q .lhs) y → look r (first (ruleOf rules q)) ≡ false → Expanded rules K look q 0
 
 -- the kernel of the next state: the dot moved over x in all items that read it
 pub data Next (rules : List Production) (W : ItemSet) (x : ℕ) : ℕ → ℕ → Type 0 where

@@ -4,9 +4,9 @@ ghost use mathlib.Core.Path.{_≡_};
 ghost use Rattle.book.specs.Held.{productionOf, productionsOf};
 ghost use Rattle.book.specs.Rules.{Production};
 ghost use Rattle.grammar.specs.Sets.{Flags, through, saturate};
-use book::rules::Rule;
 use crate::sets::SYMBOLS;
 use crate::sets::SymbolSet;
+use book::rules::Rule;
 
 // A way in which a rule adds symbols to a set, by what the set holds.
 pub trait Growth {

@@ -4,11 +4,11 @@ ghost use Rattle.book.specs.Held.{productionsOf};
 ghost use Rattle.grammar.specs.Items.{readRow, reads, isComplete};
 ghost use Rattle.grammar.specs.Numbered.{numbered, lineAt};
 ghost use Rattle.grammar.specs.Sets.{has};
-use book::rules::Rule;
-use book::symbols::FIRST_NONTERMINAL;
 use crate::sets::SYMBOLS;
 use crate::sets::SymbolSet;
 use crate::sets::insert;
+use book::rules::Rule;
+use book::symbols::FIRST_NONTERMINAL;
 
 // How many places a dot can have.
 pub const DOTS: usize = 7;
@@ -66,7 +66,11 @@ pub fn is_complete(rules: &[Rule], items: &[DotRow], number: usize) -> bool
     ensures { λ r. ⌜ r ≡ isComplete (numbered (productionsOf (now (rules .entry)))) (now (items .entry)) number ⌝ }
 {
     let end = right_of(rules, number).len();
-    if number < items.len() { dot_at(&items[number], end) } else { false }
+    if number < items.len() {
+        dot_at(&items[number], end)
+    } else {
+        false
+    }
 }
 
 fn dot_at(row: &DotRow, dot: usize) -> bool

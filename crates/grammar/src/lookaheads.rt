@@ -7,7 +7,6 @@ ghost use Rattle.grammar.specs.Lookahead.{Policy, slr, leftmostFollow, lookahe
 ghost use Rattle.grammar.specs.Relating.{relatedBy};
 ghost use Rattle.grammar.specs.Sets.{has, codes};
 ghost use lib.ListN.{getD};
-use book::rules::Rule;
 use crate::items::DotRow;
 use crate::items::is_complete;
 use crate::items::left_of;
@@ -17,6 +16,7 @@ use crate::relations::SymbolTable;
 use crate::relations::unite;
 use crate::sets::SYMBOLS;
 use crate::sets::SymbolSet;
+use book::rules::Rule;
 
 pub trait Lookahead {
     // What the policy answers, and its law: every leftmost follower of the rule's left side gets yes.
@@ -25,7 +25,13 @@ pub trait Lookahead {
     law lawful: { (x : Self) → Lawful (policy x) };
 
     // The lookahead of the complete rule of this number, from 1 up, in a closed set: the symbols to which the policy says yes.
-    fn lookahead(&self, sets: &RelationSets, rules: &[Rule], closed: &[DotRow], number: usize) -> SymbolSet
+    fn lookahead(
+        &self,
+        sets: &RelationSets,
+        rules: &[Rule],
+        closed: &[DotRow],
+        number: usize,
+    ) -> SymbolSet
         ensures { λ r. ⌜ r ≡ map (policy (now (self .entry)) (relatedBy (now (sets .entry)) (productionsOf (now (rules .entry)))) (now (closed .entry)) number) codes ⌝ };
 }
 
@@ -41,7 +47,11 @@ fn row_of(table: &SymbolTable, symbol: u8) -> SymbolSet
     ensures { λ r. ⌜ r ≡ map (has (getD (now (table .entry)) symbol [])) codes ⌝ }
 {
     let x = symbol as usize;
-    if x < SYMBOLS { spread(&table[x]) } else { [false; SYMBOLS] }
+    if x < SYMBOLS {
+        spread(&table[x])
+    } else {
+        [false; SYMBOLS]
+    }
 }
 
 // SLR: the followers of the rule's left side.
@@ -51,7 +61,13 @@ pub struct Slr;
 pub impl Lookahead for Slr as SlrLookahead {
     ghost policy = { λ _. slr };
 
-    fn lookahead(&self, sets: &RelationSets, rules: &[Rule], closed: &[DotRow], number: usize) -> SymbolSet {
+    fn lookahead(
+        &self,
+        sets: &RelationSets,
+        rules: &[Rule],
+        closed: &[DotRow],
+        number: usize,
+    ) -> SymbolSet {
         row_of(&sets.followers, left_of(rules, number))
     }
 }
@@ -63,7 +79,13 @@ pub struct LeftmostFollow;
 pub impl Lookahead for LeftmostFollow as LeftmostFollowLookahead {
     ghost policy = { λ _. leftmostFollow };
 
-    fn lookahead(&self, sets: &RelationSets, rules: &[Rule], closed: &[DotRow], number: usize) -> SymbolSet {
+    fn lookahead(
+        &self,
+        sets: &RelationSets,
+        rules: &[Rule],
+        closed: &[DotRow],
+        number: usize,
+    ) -> SymbolSet {
         row_of(&sets.leftmosts, left_of(rules, number))
     }
 }
@@ -118,7 +140,13 @@ pub struct SlrIfAdequate<L> {
 pub impl<L: Lookahead> Lookahead for SlrIfAdequate<L> as SlrIfAdequateLookahead {
     ghost policy = { λ e. slrIfAdequate (L·Lookahead .policy (e .below)) };
 
-    fn lookahead(&self, sets: &RelationSets, rules: &[Rule], closed: &[DotRow], number: usize) -> SymbolSet {
+    fn lookahead(
+        &self,
+        sets: &RelationSets,
+        rules: &[Rule],
+        closed: &[DotRow],
+        number: usize,
+    ) -> SymbolSet {
         if is_conflicting(sets, rules, closed) {
             return self.below.lookahead(sets, rules, closed, number);
         }

@@ -9,14 +9,14 @@ ghost use Rattle.grammar.specs.Meaning.{Corner};
 ghost use Rattle.grammar.specs.Relating.{relatedBy};
 ghost use Rattle.grammar.specs.Relations.{cornerStep, cornersOf, corners, behind, leftmostOf, followersOf, relationsOf};
 ghost use Rattle.grammar.specs.Sets.{has, codes, union};
-use book::rules::Rule;
-use book::symbols::FIRST_NONTERMINAL;
 use crate::growing::Growth;
 use crate::growing::saturate;
 use crate::sets::SYMBOLS;
 use crate::sets::SymbolSet;
 use crate::sets::contains;
 use crate::sets::insert;
+use book::rules::Rule;
+use book::symbols::FIRST_NONTERMINAL;
 
 // Which end of a right side: left corners go by the first symbol, right corners by the last.
 #[derive(Clone, Copy)]
@@ -56,7 +56,11 @@ pub fn related(table: &SymbolTable, x: u8, y: u8) -> bool
     ensures { λ r. ⌜ r ≡ has (getD (now (table .entry)) x []) y ⌝ }
 {
     let row = x as usize;
-    if row < SYMBOLS { contains(&table[row], y) } else { false }
+    if row < SYMBOLS {
+        contains(&table[row], y)
+    } else {
+        false
+    }
 }
 
 fn corners_of(rules: &[Rule], end: End, symbol: u8) -> SymbolSet
@@ -164,6 +168,10 @@ impl RelationSets {
         let rights = corners(rules, End::Last);
         let leftmosts = leftmosts(&rights, rules);
         let followers = followers(&lefts, &leftmosts);
-        RelationSets { lefts, leftmosts, followers }
+        RelationSets {
+            lefts,
+            leftmosts,
+            followers,
+        }
     }
 }

@@ -1,7 +1,4 @@
 // Small books: corners, followers, useless codes, reads, and lookaheads under each policy.
-use std::test::*;
-use book::books::Book;
-use book::rules::EnterErrorDebug;
 use crate::items::DOTS;
 use crate::items::DotRow;
 use crate::items::is_complete;
@@ -24,6 +21,9 @@ use crate::sets::SymbolSet;
 use crate::sets::contains;
 use crate::sets::insert;
 use crate::useful::useless;
+use book::books::Book;
+use book::rules::EnterErrorDebug;
+use std::test::*;
 
 // Two lists of ones, told apart by the word behind them.
 fn two_lists() -> Result<Book, Fail> {
@@ -131,7 +131,9 @@ fn lookaheads_of_two_lists() -> Result<(), Fail> {
     let book = two_lists()?;
     let rules = book.rules();
     let sets = RelationSets::of(rules);
-    let eased = SlrIfAdequate { below: LeftmostFollow };
+    let eased = SlrIfAdequate {
+        below: LeftmostFollow,
+    };
     let both = after_a_one();
     has_just(&Slr.lookahead(&sets, rules, &both, 7), &[2, 44, 1])?;
     has_just(&LeftmostFollow.lookahead(&sets, rules, &both, 7), &[2, 44])?;

@@ -5,15 +5,15 @@ ghost use Rattle.book.specs.Held.{productionsOf};
 ghost use Rattle.grammar.specs.Laws.{Lowest-useless};
 ghost use Rattle.grammar.specs.Sets.{has, every};
 ghost use Rattle.grammar.specs.Useful.{insertAll, reachStep, yieldStep, reachedIn, yieldingIn, occurringIn, terminals, uselessIn};
-use book::rules::Rule;
-use book::symbols::FIRST_NONTERMINAL;
-use book::symbols::is_terminal;
 use crate::growing::Growth;
 use crate::growing::saturate;
 use crate::sets::SYMBOLS;
 use crate::sets::SymbolSet;
 use crate::sets::contains;
 use crate::sets::insert;
+use book::rules::Rule;
+use book::symbols::FIRST_NONTERMINAL;
+use book::symbols::is_terminal;
 
 // Puts all of these symbols in. Answers whether the set changed.
 fn insert_all(set: &mut SymbolSet, symbols: &[u8]) -> bool

@@ -12,7 +12,7 @@ use Rattle.book.specs.Files.{fileOf, saveSays, savedIn}
 use Rattle.book.specs.Rules.{Production}
 
 by-test : (file room : List ℕ) (n : ℕ) (t : Bool) → granted n ≡ refuseIf t (no 20 []) (granted (length file))
-  → take n (leaves (refuseIf t (no 20 []) (granted (length file))) (λ m. file ++ drop m room) room) ≡ file
+    → take n (leaves (refuseIf t (no 20 []) (granted (length file))) (λ m. file ++ drop m room) room) ≡ file
 by-test file room n true e = let z : _≡_ {A = ℕ} 0 1 = cc in absurd (omega arith)
 by-test file room n false e = let same : n ≡ length file = cc in take-at file _ n (sym same)
 

@@ -22,8 +22,8 @@ number-none limit (x ∷ xs) h = absurd (omega arith)
 
 -- a number from an index on, by the byte there
 pub number-step : (limit n : ℕ) (xs : List ℕ) (i : ℕ) (t : Bool) → i < length xs
-  → (isDigit (getD xs i 0) && leb (moreDigits n (getD xs i 0)) limit) ≡ t
-  → numberFrom limit n (drop i xs) ≡ cond t (numberFrom limit (moreDigits n (getD xs i 0)) (drop (i + 1) xs)) None
+    → (isDigit (getD xs i 0) && leb (moreDigits n (getD xs i 0)) limit) ≡ t
+    → numberFrom limit n (drop i xs) ≡ cond t (numberFrom limit (moreDigits n (getD xs i 0)) (drop (i + 1) xs)) None
 number-step limit n xs i t h e =
     at-drop-more (numberFrom limit n) xs i 0 h ∙ ap (λ u. cond u (numberFrom limit (moreDigits n (getD xs i 0)) (drop (i + 1) xs)) None) e
 
@@ -33,7 +33,7 @@ both done n (Some ms) = ap Some (append-assoc done (n ∷ []) ms)
 
 -- the numbers of some texts after those before them, by the first
 pub numbers-step : (limit : ℕ) (done more word : List ℕ) (words pieces : List (List ℕ)) (n : ℕ) → more ≡ done ++ n ∷ [] → pieces ≡ word ∷ words → Some n ≡ numberOf limit word
-  → mapped (λ ms. more ++ ms) (numbersOf limit words) ≡ mapped (λ ms. done ++ ms) (numbersOf limit pieces)
+    → mapped (λ ms. more ++ ms) (numbersOf limit words) ≡ mapped (λ ms. done ++ ms) (numbersOf limit pieces)
 numbers-step limit done more word words pieces n m p e =
     ap (λ ns. mapped (λ ms. ns ++ ms) (numbersOf limit words)) m
     ∙ both done n (numbersOf limit words)

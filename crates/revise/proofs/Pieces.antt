@@ -23,8 +23,8 @@ past mark [] = []
 past mark (b ∷ bytes) = cut mark bytes
 
 one-more : (mark b : ℕ) (xs : List ℕ) (t : Bool) → cut mark xs ≡ take (firstAt mark xs) xs ∷ past mark (drop (firstAt mark xs) xs)
-  → cond t ([] ∷ cut mark xs) (onFirst b (cut mark xs))
-  ≡ take (cond t 0 (suc (firstAt mark xs))) (b ∷ xs) ∷ past mark (drop (cond t 0 (suc (firstAt mark xs))) (b ∷ xs))
+    → cond t ([] ∷ cut mark xs) (onFirst b (cut mark xs))
+    ≡ take (cond t 0 (suc (firstAt mark xs))) (b ∷ xs) ∷ past mark (drop (cond t 0 (suc (firstAt mark xs))) (b ∷ xs))
 one-more mark b xs true e = refl
 one-more mark b xs false e = ap (onFirst b) e
 
@@ -40,7 +40,7 @@ past-is mark xs end h = ⊎-elim
 
 -- the piece that starts at an index and ends before the first mark, and the pieces after it
 pub piece-first : (mark : ℕ) (xs : List ℕ) (start end : ℕ) → start ≤ end → end ≤ length xs → firstAt mark (drop start xs) ≡ end - start
-  → piecesFrom mark xs start ≡ take (end - start) (drop start xs) ∷ piecesFrom mark xs (start + (length (take (end - start) (drop start xs)) + 1))
+    → piecesFrom mark xs start ≡ take (end - start) (drop start xs) ∷ piecesFrom mark xs (start + (length (take (end - start) (drop start xs)) + 1))
 piece-first mark xs start end low high e =
     let n : start + (length (take (end - start) (drop start xs)) + 1) ≡ end + 1 = simp (length-take, length-drop) (omega arith) in
     let d : drop (end - start) (drop start xs) ≡ drop end xs = let q : start + (end - start) ≡ end = omega arith in drop-drop (end - start) start xs ∙ ap (λ k. drop k xs) q in

@@ -31,13 +31,13 @@ made-always (Err y) p = tt
 
 -- one more item's part
 pub part-more : (f : ℕ → List ℕ) (start old part new xs : List ℕ) (i : ℕ) → i < length xs
-  → old ≡ start ++ joined f (take i xs) → part ≡ f (getD xs i 0) → new ≡ old ++ part → new ≡ start ++ joined f (take (i + 1) xs)
+    → old ≡ start ++ joined f (take i xs) → part ≡ f (getD xs i 0) → new ≡ old ++ part → new ≡ start ++ joined f (take (i + 1) xs)
 part-more f start old part new xs i h o p n =
     n ∙ ap₂ (λ bs cs. bs ++ cs) o p ∙ joined-more f start (take i xs) (getD xs i 0) ∙ ap (λ ys. start ++ joined f ys) (sym (take-more xs i 0 h))
 
 -- the rule at an index, which has these sides
 pub sides-of : (rules : List Rule) (k : ℕ) (rule : Rule) → 1 ≤ k → k ≤ length rules → rule ≡ getD rules (k - 1) rule
-  → ruleIn (productionsOf rules) (k - 1) ≡ productionOf rule
+    → ruleIn (productionsOf rules) (k - 1) ≡ productionOf rule
 sides-of rules k rule low high e = getD-map productionOf rules (k - 1) rule (0 ⟶ []) (omega arith) ∙ ap productionOf (sym e)
 
 pub sides-at : (rules : List Production) (k : ℕ) → 1 ≤ k → k ≤ length rules → sidesAt rules k ≡ sidesText (ruleIn rules (k - 1))
@@ -49,8 +49,8 @@ report-more old part new was rest whole n w o = ap (λ bs. bs ++ rest) n ∙ app
 
 -- the list of rules from an index on, by the rule there
 pub list-step : (rules : List Rule) (i n : ℕ) (rule : Rule) (line : List ℕ) → i < length rules → rule ≡ getD rules i rule
-  → line ≡ decimal n ++ (codes ": " ++ (sidesText (productionOf rule) ++ 10 ∷ []))
-  → listText n (productionsOf (drop i rules)) ≡ line ++ listText (n + 1) (productionsOf (drop (i + 1) rules))
+    → line ≡ decimal n ++ (codes ": " ++ (sidesText (productionOf rule) ++ 10 ∷ []))
+    → listText n (productionsOf (drop i rules)) ≡ line ++ listText (n + 1) (productionsOf (drop (i + 1) rules))
 list-step rules i n rule line h r l =
     at-drop-more (λ rs. listText n (productionsOf rs)) rules i rule h
     ∙ ap (λ (q : Rule). decimal n ++ (codes ": " ++ (sidesText (productionOf q) ++ 10 ∷ [])) ++ listText (n + 1) (productionsOf (drop (i + 1) rules))) (sym r)

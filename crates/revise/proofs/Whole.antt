@@ -17,8 +17,7 @@ use Rattle.revise.specs.Saves.{mostBytes, savedFile}
 use Rattle.revise.proofs.Kept.{script-keeps, save-fits, load-grants}
 
 module _ (old steps : List ℕ) (rules0 rules1 : List Production)
-  (first : rules0 ≡ loaded [] old) (ok : isGranted (loadSays old) ≡ true) (last : rules1 ≡ scriptLeaves rules0 steps) where
-
+    (first : rules0 ≡ loaded [] old) (ok : isGranted (loadSays old) ≡ true) (last : rules1 ≡ scriptLeaves rules0 steps) where
   grants : loadSays old ≡ granted (loaded [] old)
   grants = load-grants [] old ok
 
@@ -38,9 +37,11 @@ module _ (old steps : List ℕ) (rules0 rules1 : List Production)
   new-loads o e = subst (LoadsRevised old steps) (sym (made-file o e)) (saved-loads _ sound)
 
   pub reported : (from to told did saved printed : List ℕ) → LoadTold from old (length rules0) told → did ≡ scriptText rules0 steps → saved ≡ saveLine to (saveSays rules1 mostBytes)
-    → printed ≡ told ++ 10 ∷ (did ++ (saved ++ 10 ∷ [])) → Reported from old steps to printed
-  reported from to told did saved printed t d s p =
-      (told, subst (λ n. LoadTold from old n told) (ap length first) t,
-       p ∙ ap (λ bs. told ++ 10 ∷ (bs ++ (saved ++ 10 ∷ []))) (d ∙ ap (λ rs. scriptText rs steps) first)
-       ∙ ap (λ bs. told ++ 10 ∷ (scriptText (loaded [] old) steps ++ (bs ++ 10 ∷ []))) (s ∙ ap (λ rs. saveLine to (saveSays rs mostBytes)) left ∙ ap (saveLine to) (save-fits _ sound))
-       ∙ ap (λ a. told ++ 10 ∷ afterLoad a steps to) (sym grants))
+      → printed ≡ told ++ 10 ∷ (did ++ (saved ++ 10 ∷ [])) → Reported from old steps to printed
+  reported from to told did saved printed t d s p = (
+    told,
+    subst (λ n. LoadTold from old n told) (ap length first) t,
+    p ∙ ap (λ bs. told ++ 10 ∷ (bs ++ (saved ++ 10 ∷ []))) (d ∙ ap (λ rs. scriptText rs steps) first)
+        ∙ ap (λ bs. told ++ 10 ∷ (scriptText (loaded [] old) steps ++ (bs ++ 10 ∷ []))) (s ∙ ap (λ rs. saveLine to (saveSays rs mostBytes)) left ∙ ap (saveLine to) (save-fits _ sound))
+        ∙ ap (λ a. told ++ 10 ∷ afterLoad a steps to) (sym grants),
+  )

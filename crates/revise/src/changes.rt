@@ -7,13 +7,13 @@ ghost use Rattle.book.specs.Rules.{_⟶_, entered, struck};
 ghost use Rattle.revise.specs.Lines.{strikeLine, enterLine};
 ghost use Rattle.revise.specs.Runs.{changed, changeLine, isPassed, lineLeaves, lineText, scriptLeaves, scriptText};
 ghost use Rattle.revise.specs.Steps.{changeOf};
-use book::books::Book;
 use crate::lines::enter_refusal;
 use crate::lines::sides;
 use crate::lines::sides_at;
 use crate::lines::strike_refusal;
 use crate::script::Step;
 use crate::script::piece;
+use book::books::Book;
 use std::alloc::AllocError;
 use std::alloc::Global;
 

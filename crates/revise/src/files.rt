@@ -9,9 +9,9 @@ ghost use Rattle.book.specs.Files.{saveSays, loadSays, loaded};
 ghost use Rattle.book.specs.Held.{rulesOf};
 ghost use Rattle.revise.specs.Lines.{LoadTold, isGranted, saveLine};
 ghost use Rattle.revise.specs.Saves.{mostBytes, savedFile};
-use book::books::Book;
 use crate::lines::load_line;
 use crate::lines::save_line;
+use book::books::Book;
 use std::alloc::AllocError;
 use std::alloc::Global;
 
@@ -40,7 +40,10 @@ pub fn load(heap: Global, book: &mut Book, name: &str, bytes: &[u8]) -> Result<L
 {
     let outcome = book.load(bytes);
     let line = load_line(heap, name, &outcome, book.rules().len())?;
-    Ok(Loaded { line, ok: outcome.is_ok() })
+    Ok(Loaded {
+        line,
+        ok: outcome.is_ok(),
+    })
 }
 
 // The book's file, if it is no longer than the buffer: that of a book that can exist never is.

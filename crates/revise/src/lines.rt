@@ -63,7 +63,10 @@ pub(crate) fn enter_refusal(heap: Global, error: EnterError) -> Result<String, A
     match error {
         EnterError::Full => String::from_str(heap, "1, the book is full"),
         EnterError::Left => String::from_str(heap, "2, the left code is no nonterminal"),
-        EnterError::Length => String::from_str(heap, "3, the right side has no symbol or more than 6"),
+        EnterError::Length => String::from_str(
+            heap,
+            "3, the right side has no symbol or more than 6",
+        ),
         EnterError::Code(i) => format!(heap, "4, right code at index {i} is no symbol"),
         EnterError::Duplicate => String::from_str(heap, "5, an equal rule is in the book"),
     }
@@ -102,7 +105,12 @@ fn load_refusal(heap: Global, error: LoadError) -> Result<String, AllocError>
 }
 
 // What came of a load, after which the book has so many rules.
-pub(crate) fn load_line(heap: Global, name: &str, outcome: &Result<(), LoadError>, count: usize) -> Result<String, AllocError>
+pub(crate) fn load_line(
+    heap: Global,
+    name: &str,
+    outcome: &Result<(), LoadError>,
+    count: usize,
+) -> Result<String, AllocError>
     ensures { λ r. ⌜ made r (λ s. string-bytes s ≡ loadLine (now (name .entry)) (now (outcome .entry)) count) ⌝ }
 {
     match outcome {
@@ -115,7 +123,11 @@ pub(crate) fn load_line(heap: Global, name: &str, outcome: &Result<(), LoadError
 }
 
 // What came of a save.
-pub(crate) fn save_line(heap: Global, name: &str, outcome: &Result<usize, SaveError>) -> Result<String, AllocError>
+pub(crate) fn save_line(
+    heap: Global,
+    name: &str,
+    outcome: &Result<usize, SaveError>,
+) -> Result<String, AllocError>
     ensures { λ r. ⌜ made r (λ s. string-bytes s ≡ saveLine (now (name .entry)) (said saveRefusal (now (outcome .entry)))) ⌝ }
 {
     match outcome {

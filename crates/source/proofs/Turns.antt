@@ -88,7 +88,7 @@ head-past xs p h = at-drop-all headOf xs p h
 
 -- from a kind byte that says a word
 record-word : (p x : ℕ) (xs : List ℕ) → Some wordKind ≡ headOf xs → Some x ≡ headOf (drop 1 xs) → (t : Bool) → isTerminal x ≡ t
-  → tapeFrom p xs ≡ cond t (before (record { symbol = x; position = p }) (tapeFrom (p + 2) (drop 2 xs))) (ends (fault 3 p))
+    → tapeFrom p xs ≡ cond t (before (record { symbol = x; position = p }) (tapeFrom (p + 2) (drop 2 xs))) (ends (fault 3 p))
 record-word p x [] h k t e = let z : _≡_ {A = ℕ} 0 1 = cc in absurd (omega arith)
 record-word p x (a ∷ []) h k t e = let z : _≡_ {A = ℕ} 0 1 = cc in absurd (omega arith)
 record-word p x (a ∷ b ∷ xs) h k t e =
@@ -104,10 +104,10 @@ record-short p (a ∷ b ∷ xs) h k = let z : _≡_ {A = ℕ} 0 1 = cc in absurd
 
 module _ (s : State) (bytes : List ℕ) (p : ℕ) (open-is : s ≡ Open) (kind : Some wordKind ≡ headOf (drop p bytes)) where
   pub tape-record : (x : ℕ) → Some x ≡ headOf (drop (p + 1) bytes) → (t : Bool) → isTerminal x ≡ t
-    → tapeMeans s bytes p ≡ cond t (before (record { symbol = x; position = p }) (tapeFrom (p + 2) (drop (p + 2) bytes))) (ends (fault 3 p))
+      → tapeMeans s bytes p ≡ cond t (before (record { symbol = x; position = p }) (tapeFrom (p + 2) (drop (p + 2) bytes))) (ends (fault 3 p))
   tape-record x k t e =
-    ap (λ u. tapeMeans u bytes p) open-is ∙ record-word p x (drop p bytes) kind (k ∙ ap headOf (sym (drop-drop 1 p bytes))) t e
-    ∙ ap (λ r. cond t (before (record { symbol = x; position = p }) (tapeFrom (p + 2) r)) (ends (fault 3 p))) (drop-drop 2 p bytes)
+      ap (λ u. tapeMeans u bytes p) open-is ∙ record-word p x (drop p bytes) kind (k ∙ ap headOf (sym (drop-drop 1 p bytes))) t e
+      ∙ ap (λ r. cond t (before (record { symbol = x; position = p }) (tapeFrom (p + 2) r)) (ends (fault 3 p))) (drop-drop 2 p bytes)
 
   pub tape-short : None ≡ headOf (drop (p + 1) bytes) → tapeMeans s bytes p ≡ ends (fault 4 p)
   tape-short k = ap (λ u. tapeMeans u bytes p) open-is ∙ record-short p (drop p bytes) kind (k ∙ ap headOf (sym (drop-drop 1 p bytes)))

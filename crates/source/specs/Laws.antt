@@ -20,7 +20,7 @@ text-terminals letters p [] = refl
 text-terminals letters p (b ∷ bytes) = go (isTerminal (getD letters b 0)) refl (text-terminals letters (p + 1) bytes)
   where
     go : (t : Bool) → isTerminal (getD letters b 0) ≡ t → allTerminals (textFrom letters (p + 1) bytes .tokens) ≡ true
-      → allTerminals (cond t (before (record { symbol = getD letters b 0; position = p }) (textFrom letters (p + 1) bytes)) (ends (fault 1 p)) .tokens) ≡ true
+        → allTerminals (cond t (before (record { symbol = getD letters b 0; position = p }) (textFrom letters (p + 1) bytes)) (ends (fault 1 p)) .tokens) ≡ true
     go false e rest = refl
     go true e rest = and-from _ _ e rest
 
@@ -41,7 +41,7 @@ records-terminals p (kind ∷ []) = go (eqb kind wordKind)
 records-terminals p (kind ∷ x ∷ bytes) = go (eqb kind wordKind) (isTerminal x) refl (records-terminals (p + 2) bytes)
   where
     go : (t u : Bool) → isTerminal x ≡ u → allTerminals (tapeFrom (p + 2) bytes .tokens) ≡ true
-      → allTerminals (cond t (cond u (before (record { symbol = x; position = p }) (tapeFrom (p + 2) bytes)) (ends (fault 3 p))) (otherKind p kind) .tokens) ≡ true
+        → allTerminals (cond t (cond u (before (record { symbol = x; position = p }) (tapeFrom (p + 2) bytes)) (ends (fault 3 p))) (otherKind p kind) .tokens) ≡ true
     go true true e rest = and-from _ _ e rest
     go true false e rest = refl
     go false u e rest = other-terminals p kind

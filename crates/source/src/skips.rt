@@ -28,7 +28,10 @@ impl<S: Source> Skip<S> {
         ensures back { λ r. ⌜ refused r (λ e. e .source ≡ source) ⌝ }
     {
         if is_terminal(code) {
-            Ok(Skip { below: source, code })
+            Ok(Skip {
+                below: source,
+                code,
+            })
         } else {
             Err(SkipError { source })
         }

@@ -39,7 +39,11 @@ fn byte_at(bytes: &[u8], place: usize) -> Option<u8>
     ensures byte { λ r. ⌜ r ≡ headOf (drop place (now (bytes .entry))) ⌝ }
     ensures within { λ r. ⌜ (isSome r ≡ true → place < length (now (bytes .entry))) ⌝ }
 {
-    if place < bytes.len() { Some(bytes[place]) } else { None }
+    if place < bytes.len() {
+        Some(bytes[place])
+    } else {
+        None
+    }
 }
 
 impl<'a> Tape<'a> {
@@ -49,7 +53,11 @@ impl<'a> Tape<'a> {
         if bytes.len() > MOST_BYTES {
             return Err(TapeError::Long);
         }
-        Ok(Tape { bytes, place: 0, state: State::Open })
+        Ok(Tape {
+            bytes,
+            place: 0,
+            state: State::Open,
+        })
     }
 }
 

@@ -1,5 +1,4 @@
 // Each fault at its edge and its place, endings taken again and again, limits, and layers.
-use std::test::*;
 use crate::drains::drain;
 use crate::lends::Lent;
 use crate::lends::LentSource;
@@ -18,6 +17,7 @@ use crate::texts::TextError;
 use crate::texts::TextErrorDebug;
 use crate::texts::TextErrorPartialEq;
 use crate::texts::TextSource;
+use std::test::*;
 
 fn word(code: u8, place: usize) -> Taken {
     Taken::Word { code, place }
@@ -94,9 +94,18 @@ fn limits() -> Result<(), Fail> {
     check(Tape::new(&bytes[0..60_000]).is_ok())?;
     check(Tape::new(&bytes).is_err())?;
     check(Text::new(&bytes[0..60_000], &letters[0..256]).is_ok())?;
-    check_eq(Text::new(&bytes, &letters[0..255]).err(), Some(TextError::Long))?;
-    check_eq(Text::new(&bytes[0..60_000], &letters[0..255]).err(), Some(TextError::Table))?;
-    check_eq(Text::new(&bytes[0..60_000], &letters).err(), Some(TextError::Table))
+    check_eq(
+        Text::new(&bytes, &letters[0..255]).err(),
+        Some(TextError::Long),
+    )?;
+    check_eq(
+        Text::new(&bytes[0..60_000], &letters[0..255]).err(),
+        Some(TextError::Table),
+    )?;
+    check_eq(
+        Text::new(&bytes[0..60_000], &letters).err(),
+        Some(TextError::Table),
+    )
 }
 
 #[test]
@@ -112,7 +121,9 @@ fn skips() -> Result<(), Fail> {
     check_eq(drain(&mut two), 0)?;
     let mut none = Skip::new(Tape::new(&bytes)?, 3).ok().ok_or("3")?;
     check_eq(drain(&mut none), 4)?;
-    let mut all = Skip::new(Tape::new(&[8, 3, 8, 3, 8, 50])?, 3).ok().ok_or("3")?;
+    let mut all = Skip::new(Tape::new(&[8, 3, 8, 3, 8, 50])?, 3)
+        .ok()
+        .ok_or("3")?;
     stays(&mut all, fault(3, 4))
 }
 

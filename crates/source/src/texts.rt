@@ -38,7 +38,11 @@ impl<'a, 'b> Text<'a, 'b> {
             return Err(TextError::Long);
         }
         match <&[u8; TABLE_SIZE]>::try_from(letters) {
-            Ok(letters) => Ok(Text { bytes, letters, place: 0 }),
+            Ok(letters) => Ok(Text {
+                bytes,
+                letters,
+                place: 0,
+            }),
             Err(_) => Err(TextError::Table),
         }
     }

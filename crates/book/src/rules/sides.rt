@@ -5,12 +5,12 @@ ghost use Rattle.book.specs.Answers.{saidOf};
 ghost use Rattle.book.specs.Held.{productionOf};
 ghost use Rattle.book.specs.Refusals.{enterRefusal};
 ghost use Rattle.book.specs.Rules.{firstBad, ruleSays, sameRule, _⟶_};
-use crate::symbols::FIRST_NONTERMINAL;
-use crate::symbols::is_nonterminal;
-use crate::symbols::is_symbol;
 use super::EnterError;
 use super::LONGEST_RIGHT;
 use super::Rule;
+use crate::symbols::FIRST_NONTERMINAL;
+use crate::symbols::is_nonterminal;
+use crate::symbols::is_symbol;
 
 // The index of the first code that may not stand in a right side.
 fn first_bad(codes: &[u8]) -> Option<usize>
@@ -41,12 +41,20 @@ impl Rule {
         }
         let mut codes = [0; LONGEST_RIGHT];
         codes[0..len].copy_from_slice(right);
-        Ok(Rule { left, len: len as u8, right: codes })
+        Ok(Rule {
+            left,
+            len: len as u8,
+            right: codes,
+        })
     }
 
     // What lies in the places of a book that hold no rule.
     pub(crate) fn filler() -> Rule {
-        Rule { left: FIRST_NONTERMINAL, len: 1, right: [1; LONGEST_RIGHT] }
+        Rule {
+            left: FIRST_NONTERMINAL,
+            len: 1,
+            right: [1; LONGEST_RIGHT],
+        }
     }
 
     pub fn left(&self) -> u8

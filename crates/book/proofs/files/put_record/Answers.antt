@@ -17,5 +17,6 @@ returns c =
     record {
       next = omega (arith, c .put .ensures .next, c .put-body .ensures .next, ap length side);
       front = c .put .ensures .front ∙ ap (λ t. t ++ right) (c .put-body .ensures .front) ∙ append-assoc before head right
-        ∙ ap₂ (λ l ws. before ++ (length ws ∷ l ∷ ws)) (c .left .ensures) side;
-      back = c .put .ensures .back ∙ back-on _ _ (c .put-body .result) (c .put .result) further (c .put-body .ensures .back) }
+          ∙ ap₂ (λ l ws. before ++ (length ws ∷ l ∷ ws)) (c .left .ensures) side;
+      back = c .put .ensures .back ∙ back-on _ _ (c .put-body .result) (c .put .result) further (c .put-body .ensures .back);
+    }

@@ -17,9 +17,10 @@ loop-d-again c =
     let d = c .loop-d .d in
     let h : d < length ws = omega (arith, c .min-n .ensures) in
     let k : d < length row = omega (arith, c .min-n .ensures, c .told-row) in
-    elim (c .if-row-d .came)
-    [ then-row-d w ↦ ap (λ s. readRow s (drop (d + 1) ws) (drop (d + 1) row)) (w .set-is ∙ w .insert .ensures .after) ∙ sym (read-row-more (c .loop-d .set) ws row d true h k (w .if-row-d .taken)) ∙ c .loop-d .inv
-    | else-row-d w ↦ ap (λ s. readRow s (drop (d + 1) ws) (drop (d + 1) row)) (w .set-is) ∙ sym (read-row-more (c .loop-d .set) ws row d false h k (w .if-row-d .left)) ∙ c .loop-d .inv ]
+    elim (c .if-row-d .came) [
+      | then-row-d w ↦ ap (λ s. readRow s (drop (d + 1) ws) (drop (d + 1) row)) (w .set-is ∙ w .insert .ensures .after) ∙ sym (read-row-more (c .loop-d .set) ws row d true h k (w .if-row-d .taken)) ∙ c .loop-d .inv
+      | else-row-d w ↦ ap (λ s. readRow s (drop (d + 1) ws) (drop (d + 1) row)) (w .set-is) ∙ sym (read-row-more (c .loop-d .set) ws row d false h k (w .if-row-d .left)) ∙ c .loop-d .inv
+    ]
 
 pub returns : need.returns
 returns c =
@@ -27,6 +28,6 @@ returns c =
     let row = c .args .row .now in
     let d = c .loop-d .d in
     let end : (length ws ≤ d) ⊎ (length row ≤ d) =
-      elim (cases-lt (length ws) 8)
-      [ inl h ↦ inl (omega (arith, c .min-n .ensures)) | inr h ↦ inr (omega (arith, c .min-n .ensures, c .told-row)) ] in
+    elim (cases-lt (length ws) 8)
+    [ inl h ↦ inl (omega (arith, c .min-n .ensures)) | inr h ↦ inr (omega (arith, c .min-n .ensures, c .told-row)) ] in
     sym (read-row-done (c .loop-d .set) ws row d end) ∙ c .loop-d .inv

@@ -9,13 +9,14 @@ use Rattle.grammar.proofs.laws.laws_hold.Needs as need
 
 pub returns : need.returns
 returns c =
-    record
-      { reached = reached-means
-      ; yields = yields-means
-      ; closing = closing-means
-      ; reads = reads-mean
-      ; expansion = expansion-means
-      ; next = next-means
-      ; policies = policies-lawful
-      ; states = states-mean
-      ; build = build-means }
+    record {
+      reached = reached-means;
+      yields = yields-means;
+      closing = closing-means;
+      reads = reads-mean;
+      expansion = expansion-means;
+      next = next-means;
+      policies = policies-lawful;
+      states = states-mean;
+      build = build-means;
+    }

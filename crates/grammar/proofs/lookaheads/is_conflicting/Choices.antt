@@ -13,5 +13,5 @@ use Rattle.grammar.proofs.lookaheads.is_conflicting.Given as given
 abbrev pub Inv-loop-number : given.InvT-loop-number
 Inv-loop-number l =
     overlap (l .seen) (map (lookaheadOf (slr (relatedBy (l .sets) (productionsOf (l .rules))) (l .closed)))
-      (keep (isComplete (numbered (productionsOf (l .rules))) (l .closed)) (upFrom (l .number) (length (numbered (productionsOf (l .rules))) - l .number))))
+    (keep (isComplete (numbered (productionsOf (l .rules))) (l .closed)) (upFrom (l .number) (length (numbered (productionsOf (l .rules))) - l .number))))
     ≡ slrConflicting (relatedBy (l .sets) (productionsOf (l .rules))) (l .closed)

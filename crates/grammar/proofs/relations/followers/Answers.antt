@@ -10,11 +10,12 @@ pub loop-a-again : need.loop-a-again
 loop-a-again c =
     let f = followersOf (c .args .lefts .now) in
     let all = c .loop-a .all in
-    let a = c .loop-a .a in
-    (length-set all a _ ∙ c .loop-a .inv .0,
-     take-more-set all a (c .followers-of .result) (omega (arith, c .loop-a .inv .0))
-     ∙ ap₂ (λ t v. t ++ v ∷ []) (c .loop-a .inv .1) (c .followers-of .ensures)
-     ∙ sym (map-more f (c .args .leftmosts .now) a [] (omega (arith, c .told-leftmosts))))
+    let a = c .loop-a .a in (
+      length-set all a _ ∙ c .loop-a .inv .0,
+      take-more-set all a (c .followers-of .result) (omega (arith, c .loop-a .inv .0))
+          ∙ ap₂ (λ t v. t ++ v ∷ []) (c .loop-a .inv .1) (c .followers-of .ensures)
+          ∙ sym (map-more f (c .args .leftmosts .now) a [] (omega (arith, c .told-leftmosts))),
+    )
 
 pub returns : need.returns
 returns c =

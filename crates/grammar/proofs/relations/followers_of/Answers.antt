@@ -21,10 +21,11 @@ loop-y-again c =
     let s = c .loop-y .set in
     let rest = keep p (upFrom (y + 1) (symbolCount - (y + 1))) in
     let turn : (t : Bool) → p y ≡ t → united lefts s (keep p (upFrom y (symbolCount - y))) ≡ united lefts s (elim t [ true ↦ y ∷ rest | false ↦ rest ]) =
-      λ t e. ap (united lefts s) (keep-more p symbolCount y (c .loop-y-test .taken) t e) in
-    elim (c .if-leftmost-y .came)
-    [ then-leftmost-y w ↦ ap (λ u. united lefts u rest) (w .set-is ∙ w .unite .ensures) ∙ sym (turn true (w .if-leftmost-y .taken)) ∙ c .loop-y .inv
-    | else-leftmost-y w ↦ ap (λ u. united lefts u rest) (w .set-is) ∙ sym (turn false (w .if-leftmost-y .left)) ∙ c .loop-y .inv ]
+    λ t e. ap (united lefts s) (keep-more p symbolCount y (c .loop-y-test .taken) t e) in
+    elim (c .if-leftmost-y .came) [
+      | then-leftmost-y w ↦ ap (λ u. united lefts u rest) (w .set-is ∙ w .unite .ensures) ∙ sym (turn true (w .if-leftmost-y .taken)) ∙ c .loop-y .inv
+      | else-leftmost-y w ↦ ap (λ u. united lefts u rest) (w .set-is) ∙ sym (turn false (w .if-leftmost-y .left)) ∙ c .loop-y .inv
+    ]
 
 pub returns : need.returns
 returns c =

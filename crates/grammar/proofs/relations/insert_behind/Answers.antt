@@ -19,9 +19,10 @@ loop-i-again c =
     let back : i + 1 - 1 ≡ i = omega arith in
     let put : Bool → Flags = λ t. elim t [ true ↦ insert s (getD ws i 0) | false ↦ s ] in
     let step : c .if-related .set ≡ put (p (getD ws (i - 1) 0)) =
-      elim (c .if-related .came)
-      [ then-related w ↦ w .set-is ∙ w .insert .ensures .after ∙ ap put (w .if-related .ensures tt)
-      | else-related w ↦ w .set-is ∙ ap put (w .if-related .ensures tt) ] in
+    elim (c .if-related .came) [
+      | then-related w ↦ w .set-is ∙ w .insert .ensures .after ∙ ap put (w .if-related .ensures tt)
+      | else-related w ↦ w .set-is ∙ ap put (w .if-related .ensures tt)
+    ] in
     ap₂ (λ t j. behind p t (getD ws j 0) (drop (i + 1) ws)) step back
     ∙ sym (ap (behind p s (getD ws (i - 1) 0)) (drop-more ws i 0 (c .loop-i-test .taken)))
     ∙ c .loop-i .inv

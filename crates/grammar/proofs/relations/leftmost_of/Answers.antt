@@ -20,9 +20,10 @@ pub loop-rule-holds : need.loop-rule-holds
 loop-rule-holds c =
     let start : Bool → Flags = λ t. elim t [ true ↦ only 0 | false ↦ none ] in
     let begun : c .if-related .set ≡ start (has (getD (c .args .rights .now) 41 []) (c .args .a)) =
-      elim (c .if-related .came)
-      [ then-related w ↦ w .set-is ∙ w .insert .ensures .after ∙ ap start (w .if-related .ensures tt)
-      | else-related w ↦ w .set-is ∙ ap start (w .if-related .ensures tt) ] in
+    elim (c .if-related .came) [
+      | then-related w ↦ w .set-is ∙ w .insert .ensures .after ∙ ap start (w .if-related .ensures tt)
+      | else-related w ↦ w .set-is ∙ ap start (w .if-related .ensures tt)
+    ] in
     ap (through (step (c .args .rights .now) (c .args .a)) (productionsOf (c .args .rules .now))) begun
 
 pub loop-rule-again : need.loop-rule-again
@@ -33,7 +34,7 @@ loop-rule-again c =
     let s = c .loop-rule .set in
     let rest = productionsOf (drop (i + 1) rules) in
     let put : c .insert-behind .last .set ≡ f s (productionOf (c .rule-item .result)) =
-      c .insert-behind .ensures ∙ ap (λ ws. behind (λ x. has (getD (c .args .rights .now) x []) (c .args .a)) s (getD ws 0 0) (drop 1 ws)) (c .right .ensures .value) in
+    c .insert-behind .ensures ∙ ap (λ ws. behind (λ x. has (getD (c .args .rights .now) x []) (c .args .a)) s (getD ws 0 0) (drop 1 ws)) (c .right .ensures .value) in
     ap (through f rest) put
     ∙ ap (λ r. through f rest (f s (productionOf r))) (c .rule-item .is)
     ∙ sym (at-drop-more (λ rs. through f (productionsOf rs) s) rules i (c .rule-item .result) (c .loop-rule-test .taken))

@@ -16,9 +16,10 @@ pub loop-x-again : need.loop-x-again
 loop-x-again c =
     let s = c .loop-x .set in
     let o = c .args .other .now in
-    let x = c .loop-x .x in
-    (length-set s x _ ∙ c .loop-x .inv .0,
-     beside-more (λ ys xs. union xs ys) (λ b a. cond a true b) (λ b bs a more. refl) o s x false false _ (omega (arith, c .told-other)) (omega (arith, c .loop-x .inv .0)) (either (getD s x false) (getD o x false)) ∙ c .loop-x .inv .1)
+    let x = c .loop-x .x in (
+      length-set s x _ ∙ c .loop-x .inv .0,
+      beside-more (λ ys xs. union xs ys) (λ b a. cond a true b) (λ b bs a more. refl) o s x false false _ (omega (arith, c .told-other)) (omega (arith, c .loop-x .inv .0)) (either (getD s x false) (getD o x false)) ∙ c .loop-x .inv .1,
+    )
 
 pub returns : need.returns
 returns c =

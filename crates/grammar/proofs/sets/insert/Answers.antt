@@ -16,7 +16,8 @@ returns-then-x-ge-SYMBOLS c =
     let x = c .args .symbol in
     let n : length s ≡ 81 = search needs in
     let same : s ≡ insert s x =
-      elim (c .then-x-ge-SYMBOLS .came)
-      [ then-x-ge-SYMBOLS·by·then-x-ge-SYMBOLS w ↦ sym (set-past s x true (omega (arith, n, w .if-x-ge-SYMBOLS .taken)))
-      | then-x-ge-SYMBOLS·by·else-x-ge-SYMBOLS·then-set-x w ↦ sym (set-getD s x false) ∙ ap (set s x) (w .if-set-x .taken) ] in
+    elim (c .then-x-ge-SYMBOLS .came) [
+      | then-x-ge-SYMBOLS·by·then-x-ge-SYMBOLS w ↦ sym (set-past s x true (omega (arith, n, w .if-x-ge-SYMBOLS .taken)))
+      | then-x-ge-SYMBOLS·by·else-x-ge-SYMBOLS·then-set-x w ↦ sym (set-getD s x false) ∙ ap (set s x) (w .if-set-x .taken)
+    ] in
     record { after = same; still = search needs }

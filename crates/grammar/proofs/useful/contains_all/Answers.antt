@@ -9,7 +9,7 @@ use Rattle.grammar.proofs.useful.contains_all.Needs.{After-contains}
 
 -- the symbols from this turn on, by the one that is tested
 turn : (c : After-contains) (t : Bool) → t ≡ has (c .args .set .now) (getD (c .args .symbols .now) (c .loop-symbol .symbol-index) 0)
-  → elim t [ true ↦ every (has (c .args .set .now)) (drop (c .loop-symbol .symbol-index + 1) (c .args .symbols .now)) | false ↦ false ] ≡ every (has (c .args .set .now)) (c .args .symbols .now)
+    → elim t [ true ↦ every (has (c .args .set .now)) (drop (c .loop-symbol .symbol-index + 1) (c .args .symbols .now)) | false ↦ false ] ≡ every (has (c .args .set .now)) (c .args .symbols .now)
 turn c t e =
     let s = c .args .set .now in
     let xs = c .args .symbols .now in

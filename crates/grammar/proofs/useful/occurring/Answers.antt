@@ -18,7 +18,7 @@ loop-rule-again c =
     let s = c .loop-rule .set in
     let rest = productionsOf (drop (i + 1) rules) in
     let put : c .insert-all .last .set ≡ step s (productionOf (c .rule-item .result)) =
-      c .insert-all .ensures .after ∙ ap₂ insertAll (c .insert-in-loop-rule .ensures .after ∙ ap (insert s) (c .left .ensures)) (c .right .ensures .value) in
+    c .insert-all .ensures .after ∙ ap₂ insertAll (c .insert-in-loop-rule .ensures .after ∙ ap (insert s) (c .left .ensures)) (c .right .ensures .value) in
     ap (through step rest) put
     ∙ ap (λ r. through step rest (step s (productionOf r))) (c .rule-item .is)
     ∙ sym (at-drop-more (λ rs. through step (productionsOf rs) s) rules i (c .rule-item .result) (c .loop-rule-test .taken))

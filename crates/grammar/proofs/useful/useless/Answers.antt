@@ -9,7 +9,7 @@ use Rattle.grammar.proofs.useful.useless.Needs.{After-yielding-yielding}
 
 -- the sets that were worked out are those of the definition
 defined : (c : After-yielding-yielding)
-  → lowest (isUseless (c .occurring-occurring .result) (c .reached-reached .result) (c .yielding-yielding .result)) codes ≡ uselessIn (productionsOf (c .args .rules .now))
+    → lowest (isUseless (c .occurring-occurring .result) (c .reached-reached .result) (c .yielding-yielding .result)) codes ≡ uselessIn (productionsOf (c .args .rules .now))
 defined c =
     let rules = productionsOf (c .args .rules .now) in
     ap (λ s. lowest (isUseless s (c .reached-reached .result) (c .yielding-yielding .result)) codes) (c .occurring-occurring .ensures)

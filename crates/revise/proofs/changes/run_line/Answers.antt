@@ -15,7 +15,8 @@ returns-in-Continue-text c =
     let reads = ap (mapped changeOf) (sym (c .in-Some .is)) ∙ c .in-Continue-step .ensures tt in
     record {
       rules = made-always _ (c .in-Continue-text .ensures tt .rules ∙ line-leaves rules line _ on reads);
-      text = made-as _ (c .format .ensures .made) (ap (λ bs. bs ++ 10 ∷ []) (c .in-Continue-text .ensures tt .line) ∙ line-text rules line _ on reads (c .args .number)) }
+      text = made-as _ (c .format .ensures .made) (ap (λ bs. bs ++ 10 ∷ []) (c .in-Continue-text .ensures tt .line) ∙ line-text rules line _ on reads (c .args .number));
+    }
 
 pub returns-in-None : need.returns-in-None
 returns-in-None c =
@@ -25,4 +26,5 @@ returns-in-None c =
     let reads = ap (mapped changeOf) (sym (c .in-None .is)) ∙ c .in-Continue-step .ensures tt in
     record {
       rules = made-always _ (line-leaves rules line _ on reads);
-      text = made-as _ (c .format-in-None .ensures .made) (line-text rules line _ on reads (c .args .number)) }
+      text = made-as _ (c .format-in-None .ensures .made) (line-text rules line _ on reads (c .args .number));
+    }

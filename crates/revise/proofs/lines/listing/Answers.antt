@@ -15,10 +15,11 @@ pub loop-rule-again : need.loop-rule-again
 loop-rule-again c =
     let n = c .loop-rule .number in
     let line = c .as-str .ensures .value ∙ c .in-Continue-line .ensures tt .made
-      ∙ ap (λ bs. decimal n ++ (codes ": " ++ (bs ++ 10 ∷ []))) (c .in-Continue-sides .ensures tt ∙ ap₂ (λ l ws. sidesText (l ⟶ ws)) (c .left .ensures) (c .right .ensures .value)) in
-    (omega arith,
-     report-more _ (c .as-str .result .now) _ _ _ _ (c .in-Continue-push-str .ensures tt .bytes)
-     (list-step (c .rules-rules .result .now) (c .loop-rule .rule-index) n (c .rule-item .result) _ (c .loop-rule-test .taken) (c .rule-item .is) line) (c .loop-rule .inv .1))
+    ∙ ap (λ bs. decimal n ++ (codes ": " ++ (bs ++ 10 ∷ []))) (c .in-Continue-sides .ensures tt ∙ ap₂ (λ l ws. sidesText (l ⟶ ws)) (c .left .ensures) (c .right .ensures .value)) in (
+      omega arith,
+      report-more _ (c .as-str .result .now) _ _ _ _ (c .in-Continue-push-str .ensures tt .bytes)
+          (list-step (c .rules-rules .result .now) (c .loop-rule .rule-index) n (c .rule-item .result) _ (c .loop-rule-test .taken) (c .rule-item .is) line) (c .loop-rule .inv .1),
+    )
 
 pub returns : need.returns
 returns c =

@@ -17,4 +17,5 @@ returns c =
     record {
       file = new-file old steps rules0 rules1 first ok last _ saved;
       loads = new-loads old steps rules0 rules1 first ok last _ saved;
-      report = reported old steps rules0 rules1 first ok last _ _ _ _ _ _ (c .in-Continue-loaded .ensures tt .line) (c .in-Continue-steps .ensures tt .text) (c .in-Continue-saved .ensures tt .line) (c .in-Continue-report .ensures tt .made) }
+      report = reported old steps rules0 rules1 first ok last _ _ _ _ _ _ (c .in-Continue-loaded .ensures tt .line) (c .in-Continue-steps .ensures tt .text) (c .in-Continue-saved .ensures tt .line) (c .in-Continue-report .ensures tt .made);
+    }

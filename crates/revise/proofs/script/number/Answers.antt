@@ -18,7 +18,8 @@ returns-then-byte-lt48 c =
     let off : (isDigit b && leb (moreDigits (c .loop-byte .value) b) (c .args .most)) ≡ false = grind (arith, tells) in
     record {
       value = sym (number-step (c .args .most) (c .loop-byte .value) xs (c .loop-byte .byte-index) false (c .loop-byte-test .taken) off) ∙ c .loop-byte .inv .1 ∙ sym (number-some (c .args .most) xs some);
-      bound = tt }
+      bound = tt;
+    }
 
 pub returns-then-next-most : need.returns-then-next-most
 returns-then-next-most c =
@@ -28,7 +29,8 @@ returns-then-next-most c =
     let off : (isDigit b && leb (moreDigits (c .loop-byte .value) b) (c .args .most)) ≡ false = grind (arith, tells) in
     record {
       value = sym (number-step (c .args .most) (c .loop-byte .value) xs (c .loop-byte .byte-index) false (c .loop-byte-test .taken) off) ∙ c .loop-byte .inv .1 ∙ sym (number-some (c .args .most) xs some);
-      bound = tt }
+      bound = tt;
+    }
 
 pub loop-byte-again : need.loop-byte-again
 loop-byte-again c =
@@ -43,4 +45,5 @@ returns c =
     let some : 0 < length xs = grind (arith, tells, c .if-is-empty .ensures tt) in
     record {
       value = sym (at-drop-all (numberFrom (c .args .most) (c .loop-byte .value)) xs (c .loop-byte .byte-index) (c .loop-byte-test .left)) ∙ c .loop-byte .inv .1 ∙ sym (number-some (c .args .most) xs some);
-      bound = c .loop-byte .inv .0 }
+      bound = c .loop-byte .inv .0;
+    }

@@ -18,5 +18,5 @@ pub returns : need.returns
 returns c =
     let rs = c .rules-rules .result .now in
     let all : length (recordsOf (take (c .loop-rule .rule-index) rs)) ≡ length (joined recordOf (rulesOf (c .args .self .now))) =
-      ap (λ t. length (recordsOf t)) (take-all (c .loop-rule .rule-index) rs (c .loop-rule-test .left)) ∙ ap (λ ps. length (joined recordOf ps)) (c .rules-rules .ensures .value) in
+    ap (λ t. length (recordsOf t)) (take-all (c .loop-rule .rule-index) rs (c .loop-rule-test .left)) ∙ ap (λ ps. length (joined recordOf ps)) (c .rules-rules .ensures .value) in
     omega (arith, all, c .loop-rule .inv .0, length-file (rulesOf (c .args .self .now)))

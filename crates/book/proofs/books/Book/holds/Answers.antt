@@ -11,8 +11,8 @@ use Rattle.book.proofs.books.Book.holds.Needs.{After-same}
 
 -- the rules from this turn on, by the one that is tested and those after it
 turn : (c : After-same)
-  → (sameRule (productionOf (c .held-item .result)) (productionOf (c .args .rule .now)) || holds (productionsOf (drop (c .loop-held .held-index + 1) (c .rules-rules .result .now))) (productionOf (c .args .rule .now)))
-  ≡ holds (productionsOf (c .rules-rules .result .now)) (productionOf (c .args .rule .now))
+    → (sameRule (productionOf (c .held-item .result)) (productionOf (c .args .rule .now)) || holds (productionsOf (drop (c .loop-held .held-index + 1) (c .rules-rules .result .now))) (productionOf (c .args .rule .now)))
+    ≡ holds (productionsOf (c .rules-rules .result .now)) (productionOf (c .args .rule .now))
 turn c =
     let p = productionOf (c .args .rule .now) in
     let rules = c .rules-rules .result .now in

@@ -17,4 +17,5 @@ returns c =
       file = loaded-file bytes rules (sym grants);
       sound = fine;
       kept = λ _. fine;
-      same = tt }
+      same = tt;
+    }

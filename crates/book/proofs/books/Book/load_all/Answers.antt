@@ -21,10 +21,11 @@ loop-width-again c =
     let after = rulesOf (c .load-record .last .self) in
     let said = c .in-Continue-width .ensures tt in
     let grants = ap granted (sym (c .in-Some .is)) ∙ said .answer in
-    let fits : w ≤ length xs = subst (λ o. found o (λ v. (0 < v) × (v ≤ length xs))) (c .in-Some .is) (said .within) .1 in
-    (omega (arith, fits, c .from-place .ensures .len),
-     ap (λ t. loadFrom t 0 after (p + w)) (sym (drop-drop w p bytes) ∙ ap (drop w) (sym (c .from-place .ensures .value)))
-     ∙ ap₂ (λ a r. onward a xs r p) grants (said .rules)
-     ∙ sym (turn xs rules p)
-     ∙ ap (λ t. loadFrom t 0 rules p) (c .from-place .ensures .value)
-     ∙ c .loop-width .inv .1)
+    let fits : w ≤ length xs = subst (λ o. found o (λ v. (0 < v) × (v ≤ length xs))) (c .in-Some .is) (said .within) .1 in (
+      omega (arith, fits, c .from-place .ensures .len),
+      ap (λ t. loadFrom t 0 after (p + w)) (sym (drop-drop w p bytes) ∙ ap (drop w) (sym (c .from-place .ensures .value)))
+          ∙ ap₂ (λ a r. onward a xs r p) grants (said .rules)
+          ∙ sym (turn xs rules p)
+          ∙ ap (λ t. loadFrom t 0 rules p) (c .from-place .ensures .value)
+          ∙ c .loop-width .inv .1,
+    )

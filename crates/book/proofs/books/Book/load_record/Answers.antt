@@ -37,7 +37,7 @@ record-is c =
     (take-rest xs 1) (take-rest (tail xs) 1) some more (c .if-kind-eq-CLOSING .left) (c .if-n-lt1 .left) (c .if-n-gt-LONGEST-RIGHT .left) (c .in-Continue-right .ensures tt)
 
 rules-are : (c : After-enter-at) → rulesOf (c .enter-at .last .self)
-  ≡ leaves (recordSays (rulesOf (c .args .self .now)) (c .args .place) (c .args .bytes .now)) (elim [ None ↦ rulesOf (c .args .self .now) | Some q ↦ rulesOf (c .args .self .now) ++ q ∷ [] ]) (rulesOf (c .args .self .now))
+    ≡ leaves (recordSays (rulesOf (c .args .self .now)) (c .args .place) (c .args .bytes .now)) (elim [ None ↦ rulesOf (c .args .self .now) | Some q ↦ rulesOf (c .args .self .now) ++ q ∷ [] ]) (rulesOf (c .args .self .now))
 rules-are c =
     let rules = rulesOf (c .args .self .now) in
     c .enter-at .ensures .rules ∙ rule-leaves (enters c) (c .args .place) (rule-of c) rules
@@ -48,11 +48,12 @@ returns-in-Break-enter-at c =
     let d = need.at·returns-in-Break-enter-at c .After-enter-at in
     let q = err-from-errBy (c .from-residual-in-Break-enter-at .result) (c .from-residual-in-Break-enter-at .ensures .1) in
     let refuses : refused (loadRefusal (q .0)) ≡ recordSays (rulesOf (c .args .self .now)) (c .args .place) (c .args .bytes .now) =
-      ap (λ e. refused (loadRefusal e)) (q .2) ∙ c .in-Break-enter-at .ensures tt .answer ∙ sym (record-is d) in
+    ap (λ e. refused (loadRefusal e)) (q .2) ∙ c .in-Break-enter-at .ensures tt .answer ∙ sym (record-is d) in
     record {
       answer = ap (said loadRefusal) (q .1) ∙ ap (λ a. andThen a (λ o. granted (mapped width o))) refuses;
       rules = rules-are d;
-      within = made-from-err _ _ (c .from-residual-in-Break-enter-at .ensures .0) }
+      within = made-from-err _ _ (c .from-residual-in-Break-enter-at .ensures .0);
+    }
 
 pub returns : need.returns
 returns c =
@@ -67,4 +68,5 @@ returns c =
     record {
       answer = ap (λ w. granted (Some w)) wide ∙ ap (λ a. andThen a (λ o. granted (mapped width o))) grants;
       rules = rules-are d;
-      within = (omega arith, omega (arith, long, simp (length-take, length-drop) at long)) }
+      within = (omega arith, omega (arith, long, simp (length-take, length-drop) at long));
+    }

@@ -14,9 +14,10 @@ returns c =
     let array : length (book .rules) ≡ 100 = search needs in
     let least : n ≡ min (book .count .rules) 100 = omega (arith, c .min-n .ensures) in
     let front : take n (book .rules) ≡ take (book .count .rules) (book .rules) =
-      ap (λ k. take k (book .rules)) least ∙ take-min (book .rules) (book .count .rules) 100 array in
+    ap (λ k. take k (book .rules)) least ∙ take-min (book .rules) (book .count .rules) 100 array in
     record {
       value = ap productionsOf front;
       len = ap length front ∙ sym (length-map (take (book .count .rules) (book .rules)) productionOf);
       few = simp length-take (omega (arith, least, array));
-      list = front }
+      list = front;
+    }

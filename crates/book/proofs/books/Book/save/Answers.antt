@@ -35,11 +35,12 @@ loop-rule-again c =
     let i = c .loop-rule .rule-index in
     let put = c .put-record-at .ensures in
     let more = records-more rs i (c .rule-item .result) (c .loop-rule-test .taken) (c .rule-item .is) in
-    let front = put .front ∙ ap (λ t. t ++ recordOf (productionOf (c .rule-item .result))) (c .loop-rule .inv .2) ∙ sym more in
-    (omega (arith, c .put-record-at .kept .out, c .loop-rule .inv .0),
-     omega (arith, put .next, c .loop-rule .inv .1, length-records-more rs i (c .rule-item .result) (c .loop-rule-test .taken) (c .rule-item .is)),
-     front,
-     put .back ∙ back-on _ _ (c .loop-rule .at) (c .put-record-at .result) (omega (arith, put .next)) (c .loop-rule .inv .3))
+    let front = put .front ∙ ap (λ t. t ++ recordOf (productionOf (c .rule-item .result))) (c .loop-rule .inv .2) ∙ sym more in (
+      omega (arith, c .put-record-at .kept .out, c .loop-rule .inv .0),
+      omega (arith, put .next, c .loop-rule .inv .1, length-records-more rs i (c .rule-item .result) (c .loop-rule-test .taken) (c .rule-item .is)),
+      front,
+      put .back ∙ back-on _ _ (c .loop-rule .at) (c .put-record-at .result) (omega (arith, put .next)) (c .loop-rule .inv .3),
+    )
 
 pub put-requires : need.put-requires
 put-requires c κs =
@@ -54,15 +55,16 @@ returns c =
     let written = c .put .last .out in
     let end = c .put .result in
     let all : recordsOf (take (c .loop-rule .rule-index) rs) ≡ joined recordOf rules =
-      ap recordsOf (take-all (c .loop-rule .rule-index) rs (c .loop-rule-test .left)) ∙ all-records (need.at·returns c .After-rules-rules) in
+    ap recordsOf (take-all (c .loop-rule .rule-index) rs (c .loop-rule-test .left)) ∙ all-records (need.at·returns c .After-rules-rules) in
     let size : end ≡ length (fileOf rules) = omega (arith, c .put .ensures .next, c .loop-rule .inv .1, ap length all, length-file rules) in
     let front : take end written ≡ fileOf rules =
-      c .put .ensures .front ∙ ap₂ (λ t n. t ++ 7 ∷ n ∷ []) (c .loop-rule .inv .2 ∙ all) (c .rules-rules .ensures .len) in
+    c .put .ensures .front ∙ ap₂ (λ t n. t ++ 7 ∷ n ∷ []) (c .loop-rule .inv .2 ∙ all) (c .rules-rules .ensures .len) in
     let back : drop end written ≡ drop end out =
-      c .put .ensures .back ∙ back-on _ _ (c .loop-rule .at) end (omega (arith, c .put .ensures .next)) (c .loop-rule .inv .3) in
+    c .put .ensures .back ∙ back-on _ _ (c .loop-rule .at) end (omega (arith, c .put .ensures .next)) (c .loop-rule .inv .3) in
     let fits : length (fileOf rules) ≤ length out = omega (arith, c .if-out-file-size .left, c .file-size .ensures) in
     let grants : granted end ≡ saveSays rules (length out) = ap granted size ∙ grind (arith, tells, fits) in
     record {
       answer = grants;
       buffer = sym (take-append-drop end written) ∙ ap₂ _++_ front back ∙ ap (λ a. leaves a (λ n. fileOf rules ++ drop n out) out) grants;
-      loads = λ w. ap loadSays front ∙ saved-loads rules w }
+      loads = λ w. ap loadSays front ∙ saved-loads rules w;
+    }

@@ -20,11 +20,11 @@ returns c =
     let array : length (book .rules) ≡ 100 = search needs in
     let long : n ≤ length (book .rules) = omega (arith, c .rules-n .ensures .few) in
     let front : take n (book .rules) ≡ take (book .count .rules) (book .rules) =
-      ap (λ rs. take (length rs) (book .rules)) (c .rules-n .ensures .list) ∙ take-own (book .rules) (book .count .rules) in
+    ap (λ rs. take (length rs) (book .rules)) (c .rules-n .ensures .list) ∙ take-own (book .rules) (book .count .rules) in
     let grants : granted tt ≡ strikeSays (rulesOf book) k = grind (arith, tells, c .rules-n .ensures .len) in
     let after : _ ≡ struck (rulesOf book) k =
-      ap productionsOf (struck-out (book .rules) k n _ (c .if-number-lt1 .left) (c .if-number-n .left) long (c .rotate-left .ensures .after))
-      ∙ ap (λ rs. productionsOf (take (k - 1) rs ++ drop k rs)) front
-      ∙ map-without productionOf (take (book .count .rules) (book .rules)) (k - 1) k
-      ∙ ap (λ a. leaves a (λ _. take (k - 1) (rulesOf book) ++ drop k (rulesOf book)) (rulesOf book)) grants in
+    ap productionsOf (struck-out (book .rules) k n _ (c .if-number-lt1 .left) (c .if-number-n .left) long (c .rotate-left .ensures .after))
+    ∙ ap (λ rs. productionsOf (take (k - 1) rs ++ drop k rs)) front
+    ∙ map-without productionOf (take (book .count .rules) (book .rules)) (k - 1) k
+    ∙ ap (λ a. leaves a (λ _. take (k - 1) (rulesOf book) ++ drop k (rulesOf book)) (rulesOf book)) grants in
     record { answer = grants; rules = after; kept = λ w. ap isWellFormed after ∙ struck-well-formed (rulesOf book) k w; same = tt }

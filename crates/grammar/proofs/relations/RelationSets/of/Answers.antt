@@ -14,7 +14,7 @@ returns c =
     let leftmosts = c .leftmosts-leftmosts .result in
     let made : List Flags → Relations = λ f. record { lines = numbered rules; lefts = lefts; leftmosts = leftmosts; followers = f } in
     let equal =
-      ap made (c .followers-followers .ensures)
-      ∙ ap (withFollowers rules lefts) (c .leftmosts-leftmosts .ensures)
-      ∙ ap₂ (withLeftmosts rules) (c .corners-lefts .ensures .equal) (c .corners-rights .ensures .equal) in
+    ap made (c .followers-followers .ensures)
+    ∙ ap (withFollowers rules lefts) (c .leftmosts-leftmosts .ensures)
+    ∙ ap₂ (withLeftmosts rules) (c .corners-lefts .ensures .equal) (c .corners-rights .ensures .equal) in
     record { equal = equal; tell = relations-tell (c .args .rules .now) _ equal }
