@@ -1,11 +1,12 @@
 -- Worked cases of building: books, and what a build of each answers under a policy.
+use mathlib.Core.Bool.{false}
 use mathlib.Core.List.{List, [], _∷_, _++_, map}
 use mathlib.Core.Path.{_≡_}
 use Prim.Native.Nat.{ℕ, zero, suc}
 use lib.ListN.{getD, length}
 use Rattle.book.specs.Answers.{Answer, granted, refused, no}
 use Rattle.book.specs.Rules.{Production, _⟶_}
-use Rattle.grammar.specs.Lookahead.{Policy, slr, leftmostFollow, lslr}
+use Rattle.grammar.specs.Lookahead.{Policy, slr, leftmostFollow, slrIfAdequate, lslr}
 use Rattle.grammar.specs.Build.{Act, nothing, accept, shift, reduce, conflict, buildSays}
 
 -- Books.
@@ -29,6 +30,30 @@ Self = 41 ⟶ (41 ∷ []) ∷ 41 ⟶ (1 ∷ []) ∷ []
 
 abbrev pub Apart : List Production
 Apart = 41 ⟶ (1 ∷ []) ∷ 42 ⟶ (2 ∷ []) ∷ []
+
+-- a symbol twice in a row, its word two rules below it; SLR is adequate
+abbrev pub Twice : List Production
+Twice = 41 ⟶ (42 ∷ 42 ∷ []) ∷ 42 ⟶ (43 ∷ []) ∷ 43 ⟶ (1 ∷ []) ∷ []
+
+-- a list of two words or more, where only the end tells which word is the last
+abbrev pub Tail : List Production
+Tail = 41 ⟶ (1 ∷ 43 ∷ []) ∷ 41 ⟶ (42 ∷ 41 ∷ []) ∷ 42 ⟶ (1 ∷ []) ∷ 43 ⟶ (1 ∷ []) ∷ []
+
+-- two symbols, each twice in a row in a rule for the other; SLR is adequate in some states and not in others
+abbrev pub Mutual : List Production
+Mutual = 41 ⟶ (42 ∷ 42 ∷ 2 ∷ []) ∷ 42 ⟶ (1 ∷ 1 ∷ []) ∷ 42 ⟶ (41 ∷ 41 ∷ 1 ∷ []) ∷ []
+
+-- pairs of words or pairs; a pair may be all, or the start of another, and two states have conflicts
+abbrev pub Pairs : List Production
+Pairs = 41 ⟶ (42 ∷ 42 ∷ []) ∷ 42 ⟶ (1 ∷ []) ∷ 42 ⟶ (41 ∷ []) ∷ []
+
+-- one word for three symbols, of which the first and the last have the same word behind them
+abbrev pub Three : List Production
+Three = 41 ⟶ (42 ∷ 2 ∷ []) ∷ 41 ⟶ (43 ∷ 2 ∷ []) ∷ 42 ⟶ (1 ∷ []) ∷ 41 ⟶ (1 ∷ []) ∷ 43 ⟶ (1 ∷ []) ∷ []
+
+-- A policy that always says no. Above it, SLR where adequate leaves no conflict.
+abbrev pub never : Policy
+never rel items r x = false
 
 -- What is asked, and what is answered.
 
@@ -79,6 +104,12 @@ cases =
     ∷ case lslr Apart states (none 7 (2 ∷ []))
     ∷ case lslr T7 states (none 7 (43 ∷ []))
     ∷ case lslr E states (many 18)
+    ∷ case lslr Twice (entries 1) (row ((0, reduce 3) ∷ (1, reduce 3) ∷ (42, reduce 3) ∷ (43, reduce 3) ∷ []))
+    ∷ case lslr Tail (entries 4) (row ((0, reduce 4) ∷ (1, shift 4) ∷ (41, reduce 3) ∷ (42, shift 3) ∷ (43, shift 5) ∷ []))
+    ∷ case lslr Mutual (entries 4) (row ((1, reduce 2) ∷ (2, reduce 2) ∷ (41, reduce 2) ∷ (42, reduce 2) ∷ []))
+    ∷ case slr Pairs states (none 9 (2 ∷ 0 ∷ []))
+    ∷ case (slrIfAdequate never) Pairs states (many 6)
+    ∷ case (slrIfAdequate never) Three states (many 7)
     ∷ []
 
 -- the definitions yield the answer of each case
