@@ -6,7 +6,7 @@ use Prim.Native.Nat.{ℕ, zero, suc}
 use lib.ListN.{getD, length}
 use Rattle.book.specs.Answers.{Answer, granted, refused, no}
 use Rattle.book.specs.Rules.{Production, _⟶_}
-use Rattle.grammar.specs.Lookahead.{Policy, slr, leftmostFollow, slrIfAdequate, lslr}
+use Rattle.grammar.specs.Lookahead.{Policy, slr, slrIfAdequate, lslr}
 use Rattle.grammar.specs.Build.{Act, nothing, accept, shift, reduce, conflict, buildSays}
 
 -- Books.
