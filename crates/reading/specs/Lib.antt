@@ -1,0 +1,6 @@
+pub mod Trees
+pub mod Tables
+pub mod Reader
+pub mod Reading
+pub mod Promise
+pub mod Building
