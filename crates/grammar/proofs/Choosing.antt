@@ -20,7 +20,7 @@ use Rattle.grammar.specs.Build.{Act, nothing, shift, conflict, beside, reduceB
 use Rattle.grammar.specs.Meaning.{Holds, after, Closed, Move, shifts, accepts, reduces, Applies, reads as byRead, looks as byLook, ends as byEnd}
 use Rattle.grammar.specs.Laws.{Shaped, Closing-means, Reads-mean, Expansion-means, moveOf, Sole}
 use Rattle.grammar.proofs.Rounds.{In}
-use Rattle.grammar.proofs.Exploring.{in-up, up-in}
+use Rattle.grammar.proofs.Listed.{kept-from, kept-has, counted-from, counted-has}
 
 -- where equations clash
 pub clash : {A : Type 0} → _≡_ {A = ℕ} 0 1 → A
@@ -32,36 +32,17 @@ abbrev pub Unlike : List ℕ → Type 0
 Unlike [] = Unit {0}
 Unlike (r ∷ rs) = ((q : ℕ) → In q rs → q ≡ r → ⊥) × Unlike rs
 
-keep-in : (p : ℕ → Bool) (rs : List ℕ) (r : ℕ) → In r rs → p r ≡ true → In r (keep p rs)
-keep-in p [] r i e = absurd i
-keep-in p (q ∷ rs) r i e = go (p q) refl i (λ j. keep-in p rs r j e)
-  where
-    go : (c : Bool) → p q ≡ c → (r ≡ q) ⊎ In r rs → (In r rs → In r (keep p rs)) → In r (elim c [ true ↦ q ∷ keep p rs | false ↦ keep p rs ])
-    go true f (inl h) more = inl h
-    go true f (inr j) more = inr (more j)
-    go false f (inl h) more = clash (cc)
-    go false f (inr j) more = more j
-
-keep-from : (p : ℕ → Bool) (rs : List ℕ) (r : ℕ) → In r (keep p rs) → In r rs × (p r ≡ true)
-keep-from p [] r i = absurd i
-keep-from p (q ∷ rs) r i = go (p q) refl i (keep-from p rs r)
-  where
-    go : (c : Bool) → p q ≡ c → In r (elim c [ true ↦ q ∷ keep p rs | false ↦ keep p rs ]) → (In r (keep p rs) → In r rs × (p r ≡ true)) → ((r ≡ q) ⊎ In r rs) × (p r ≡ true)
-    go true f (inl h) more = (inl h, ap p h ∙ f)
-    go true f (inr j) more = let (a, b) = more j in (inr a, b)
-    go false f j more = let (a, b) = more j in (inr a, b)
-
 keep-unlike : (p : ℕ → Bool) (rs : List ℕ) → Unlike rs → Unlike (keep p rs)
 keep-unlike p [] u = tt
 keep-unlike p (q ∷ rs) u = go (p q) (keep-unlike p rs (u .1))
   where
     go : (c : Bool) → Unlike (keep p rs) → Unlike (elim c [ true ↦ q ∷ keep p rs | false ↦ keep p rs ])
-    go true more = (λ r i. u .0 r (keep-from p rs r i .0), more)
+    go true more = (λ r i. u .0 r (kept-from p rs r i .0), more)
     go false more = more
 
 up-unlike : (k n : ℕ) → Unlike (upFrom k n)
 up-unlike k zero = tt
-up-unlike k (suc n) = (λ q i e. let h = up-in (suc k) n q i in omega arith, up-unlike (suc k) n)
+up-unlike k (suc n) = (λ q i e. let h = counted-from (suc k) n q i in omega arith, up-unlike (suc k) n)
 
 -- Moves. The outer rule accepts, any other is reduced by.
 
@@ -237,15 +218,15 @@ module _ (closing-means : Closing-means) (reads-mean : Reads-mean) (expansion-me
         | inl l ↦ subst (λ n. r < n) (shape .rows) l
         | inr g ↦ let f : has (getD closed-items r []) d ≡ has [] d = ap (λ row. has row d) (getD-past closed-items r [] g) in clash (cc)
       ] in
-      keep-in (isComplete (numbered rules) closed-items) (upFrom 0 (length (numbered rules))) r (in-up 0 (length (numbered rules)) r (omega arith) (omega arith))
+      kept-has (isComplete (numbered rules) closed-items) (upFrom 0 (length (numbered rules))) r (counted-has 0 (length (numbered rules)) r (omega arith) (omega arith))
       (complete-means rules closed-items shape r .1 (d, h, e))
 
   complete-from : (r : ℕ) → In r (completeIn (numbered rules) closed-items) → (r ≤ length rules) × (d : ℕ) × Closed rules (Holds k) r d × (after rules r d ≡ [])
   complete-from r i =
       let (shape, means) = closing-means rules bounded k shaped in
-      let (j, e) = keep-from (isComplete (numbered rules) closed-items) (upFrom 0 (length (numbered rules))) r i in
+      let (j, e) = kept-from (isComplete (numbered rules) closed-items) (upFrom 0 (length (numbered rules))) r i in
       let (d, h, f) = complete-means rules closed-items shape r .0 e in
-      let l = up-in 0 (length (numbered rules)) r j in
+      let l = counted-from 0 (length (numbered rules)) r j in
       (omega arith, d, means r d .0 h, f)
 
   -- what applies is what is read and looked at

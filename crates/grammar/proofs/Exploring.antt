@@ -18,6 +18,8 @@ use Rattle.grammar.specs.Lookahead.{Policy}
 use Rattle.grammar.specs.States.{sameItems, itemsOf, numberOf, withKernel, withNext, visit, explore, mostStates, kernelsOf}
 use Rattle.grammar.specs.Laws.{Shaped, Expansion-means, Next-means, Kernel, initial, following, Numbers-states, States-mean}
 use Rattle.grammar.proofs.Rounds.{In}
+use Rattle.grammar.proofs.Listed.{counted-has}
+use Rattle.grammar.proofs.Members.{has-below}
 use Rattle.grammar.proofs.Equalling.{same-items-is, same-items-self}
 
 -- The number of a kernel.
@@ -199,23 +201,11 @@ read-rows-long s [] rows = refl
 read-rows-long s (l ∷ lines) [] = refl
 read-rows-long s (l ∷ lines) (row ∷ rows) = read-rows-long (readRow s (l .rhs) row) lines rows ∙ read-row-long s (l .rhs) row
 
-pub has-below : (s : Flags) (x : ℕ) → has s x ≡ true → x < length s
-has-below s x e = elim (cases-lt x (length s)) [ inl l ↦ l | inr g ↦ let q : has s x ≡ false = getD-past s x false g in let z : _≡_ {A = ℕ} 0 1 = cc in absurd (omega arith) ]
-
 pub read-code : (lines : List Production) (items : Items) (x : ℕ) → has (reads lines items) x ≡ true → x < symbolCount
 read-code lines items x e =
     let l : length (reads lines items) ≡ symbolCount = read-rows-long none lines items ∙ length-replicate symbolCount false in
     let h = has-below (reads lines items) x e in
     omega arith
-
-pub in-up : (k n x : ℕ) → k ≤ x → x < k + n → In x (upFrom k n)
-in-up k zero x l h = absurd (omega arith)
-in-up k (suc n) x l h = elim (cases-eq x k) [ inl e ↦ inl e | inr d ↦ inr (in-up (suc k) n x (omega arith) (omega arith)) ]
-
-pub up-in : (k n x : ℕ) → In x (upFrom k n) → (k ≤ x) × (x < k + n)
-up-in k zero x i = absurd i
-up-in k (suc n) x (inl e) = (omega arith, omega arith)
-up-in k (suc n) x (inr i) = let h = up-in (suc k) n x i in (omega arith, omega arith)
 
 -- Visits in turn.
 
@@ -238,7 +228,7 @@ module _ (policy : Policy) (rel : Relations) where
   visit-known i ks h =
       subst (Known (visited i ks)) (sym (grows-at (visit-grows i ks) i h))
       (λ x r. next-known (rel .lines) (itemsOf policy rel (getD ks i [])) (reads (rel .lines) (itemsOf policy rel (getD ks i []))) codes ks x
-      (in-up 0 symbolCount x (omega arith) (read-code (rel .lines) (itemsOf policy rel (getD ks i [])) x r)) r)
+      (counted-has 0 symbolCount x (omega arith) (read-code (rel .lines) (itemsOf policy rel (getD ks i [])) x r)) r)
 
   known-grows : {ks ls : List Items} → Grows ks ls → (s : ℕ) → s < length ks → Known ks (getD ks s []) → Known ls (getD ls s [])
   known-grows {ks} {ls} g s h known =

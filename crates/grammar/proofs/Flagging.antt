@@ -83,26 +83,6 @@ union-from (a ∷ s) (b ∷ t) zero e = go a e
     go false e = inr e
 union-from (a ∷ s) (b ∷ t) (suc x) e = union-from s t x e
 
--- Kept elements.
-
-pub keep-has : {A : Type 0} (p : A → Bool) (xs : List A) (x : A) → p x ≡ true → In x xs → In x (keep p xs)
-keep-has p [] x e m = absurd m
-keep-has p (y ∷ ys) x e m = go (p y) refl (elim m [ inl q ↦ inl q | inr i ↦ inr (keep-has p ys x e i) ])
-  where
-    go : (b : Bool) → p y ≡ b → (x ≡ y) ⊎ In x (keep p ys) → In x (elim b [ true ↦ y ∷ keep p ys | false ↦ keep p ys ])
-    go true f m = m
-    go false f (inl q) = absurd (both-ways (p y) f (ap p (sym q) ∙ e))
-    go false f (inr i) = i
-
-pub keep-from : {A : Type 0} (p : A → Bool) (xs : List A) (x : A) → In x (keep p xs) → p x ≡ true
-keep-from p [] x m = absurd m
-keep-from p (y ∷ ys) x m = go (p y) refl (keep-from p ys x) m
-  where
-    go : (b : Bool) → p y ≡ b → (In x (keep p ys) → p x ≡ true) → In x (elim b [ true ↦ y ∷ keep p ys | false ↦ keep p ys ]) → p x ≡ true
-    go true f rest (inl q) = ap p q ∙ f
-    go true f rest (inr i) = rest i
-    go false f rest i = rest i
-
 -- Elements in turn.
 
 module _ {A S : Type 0} (step : S → A → S) where

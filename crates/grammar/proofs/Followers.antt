@@ -16,7 +16,8 @@ use Rattle.grammar.specs.Meaning.{ruleOf, InBook, Adjacent, here, later, Leftm
 use Rattle.grammar.specs.Laws.{Leftmost-followers-mean, Followers-mean}
 use Rattle.grammar.proofs.Rounds.{In, none-has, only-from}
 use Rattle.grammar.proofs.Bounded.{rule-in, of-each, size-in, member-in, adjacent-members}
-use Rattle.grammar.proofs.Flagging.{at-code, in-codes, insertIf, insert-if-long, insert-if-keeps, insert-if-from, insert-if-has, union-left, union-right, union-from, keep-has, keep-from, through-keeps, through-brings}
+use Rattle.grammar.proofs.Listed.{kept-from, kept-has}
+use Rattle.grammar.proofs.Flagging.{at-code, in-codes, insertIf, insert-if-long, insert-if-keeps, insert-if-from, insert-if-has, union-left, union-right, union-from, through-keeps, through-brings}
 use Rattle.grammar.proofs.Corners.{left-corners-mean, right-corners-mean}
 
 -- The symbols behind those that pass a test.
@@ -146,11 +147,11 @@ followers-mean rules a x z h =
       λ e. elim (union-of-from lefts none (keep (has leftmost) codes) z (sym (ap (λ s. has s z) at) ∙ e)) [
         | inl o ↦ absurd (both-ways (has none z) (none-has symbolCount z) o)
         | inr r ↦
-            let f : LeftmostFollower rules x (r .0) = leftmost-followers-mean rules a x (r .0) h .0 (keep-from (has leftmost) codes (r .0) (r .1)) in
+            let f : LeftmostFollower rules x (r .0) = leftmost-followers-mean rules a x (r .0) h .0 (kept-from (has leftmost) codes (r .0) (r .1) .1) in
             record { leftmost = r .0; follows = f; corner = left-corners-mean rules a (r .0) z (leftmost-in rules a x (r .0) f) .0 (r .2) }
       ],
       λ f. ap (λ s. has s z) at
           ∙ union-of-has lefts none (keep (has leftmost) codes) (f .leftmost) z
-          (keep-has (has leftmost) codes (f .leftmost) (leftmost-followers-mean rules a x (f .leftmost) h .1 (f .follows)) (in-codes (f .leftmost) (leftmost-in rules a x (f .leftmost) (f .follows))))
+          (kept-has (has leftmost) codes (f .leftmost) (in-codes (f .leftmost) (leftmost-in rules a x (f .leftmost) (f .follows))) (leftmost-followers-mean rules a x (f .leftmost) h .1 (f .follows)))
           (left-corners-mean rules a (f .leftmost) z (leftmost-in rules a x (f .leftmost) (f .follows)) .1 (f .corner)),
     )
