@@ -1,0 +1,6 @@
+mod Sides
+mod Same
+mod Calls
+mod Finding
+mod Rowing
+mod Filling
