@@ -4,3 +4,4 @@ mod Calls
 mod Finding
 mod Rowing
 mod Filling
+pub mod Says

@@ -191,7 +191,7 @@ fn cells_of<L: Lookahead>(look: &L, sets: &RelationSets, rules: &[Rule], kernels
 }
 
 // The row of a state, or the lowest symbol in conflict.
-pub fn row_of<L: Lookahead>(look: &L, sets: &RelationSets, rules: &[Rule], kernels: &Kernels, m: usize, state: usize) -> Result<Row, u8>
+pub(crate) fn row_of<L: Lookahead>(look: &L, sets: &RelationSets, rules: &[Rule], kernels: &Kernels, m: usize, state: usize) -> Result<Row, u8>
     requires few { ⌜ length (now rules) ≤ mostRules ⌝ }
     requires most { ⌜ m ≤ mostStates ⌝ }
     requires known { ⌜ state < m ⌝ }

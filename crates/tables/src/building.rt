@@ -3,16 +3,16 @@ ghost use mathlib.Core.List.{[], _∷_, _++_, map};
 ghost use mathlib.Core.Path.{_≡_};
 ghost use Prim.Native.Nat.{_+_, _<_, _≤_};
 ghost use lib.ListN.{length, take, getD};
-ghost use Rattle.book.specs.Answers.{saidOf};
+ghost use Rattle.book.specs.Answers.{saidOf, said};
 ghost use Rattle.book.specs.Held.{productionsOf};
 ghost use Rattle.book.specs.Symbols.{mostRules};
 ghost use Rattle.grammar.specs.Build.{nothing, rowsOf, withoutConflict, builtBy, buildSays};
 ghost use Rattle.grammar.specs.Relating.{relatedBy};
-ghost use Rattle.grammar.specs.Sets.{symbolCount};
 ghost use Rattle.grammar.specs.States.{mostStates};
-ghost use Rattle.tables.specs.Acts.{actOf, actsOf, wordOf};
-ghost use Rattle.tables.specs.Built.{tableOf, buildRefusal};
+ghost use Rattle.tables.specs.Acts.{actOf, actsOf};
+ghost use Rattle.tables.specs.Built.{tableOf, buildRefusal, fillSays, rowRefusal, rowSays, rowIn};
 ghost use Rattle.tables.specs.Kept.{heldIn};
+use book::books::MOST_RULES;
 use book::rules::Rule;
 use grammar::lookaheads::Lookahead;
 use grammar::relations::RelationSets;
@@ -41,9 +41,16 @@ pub struct Tables {
 
 #[derive(Clone, Copy, PartialEq, Debug)]
 pub enum BuildError {
+    Rules,
     Useless(u8),
     States,
     Conflict(u8, u8),
+}
+
+#[derive(Clone, Copy, PartialEq, Debug)]
+pub enum RowError {
+    Short,
+    State,
 }
 
 impl Tables {
@@ -90,8 +97,8 @@ impl Tables {
         }
     }
 
-    // The tables of a book with these rules, by a lookahead policy.
-    pub fn fill<L: Lookahead>(&mut self, rules: &[Rule], look: &L) -> Result<(), BuildError>
+    // The tables of no more rules than a book can have.
+    fn fill_few<L: Lookahead>(&mut self, rules: &[Rule], look: &L) -> Result<(), BuildError>
         requires few { ⌜ length (now rules) ≤ mostRules ⌝ }
         ensures { λ r. ⌜ saidOf (λ _. tableOf (now (self .exit))) buildRefusal r ≡ buildSays (L·Lookahead .policy (now (look .entry))) (productionsOf (now (rules .entry))) ⌝ }
     {
@@ -100,6 +107,16 @@ impl Tables {
         }
         let sets = RelationSets::of(rules);
         self.construct(look, &sets, rules)
+    }
+
+    // The tables of a book with these rules, by a lookahead policy. What they are after a refusal is free.
+    pub fn fill<L: Lookahead>(&mut self, rules: &[Rule], look: &L) -> Result<(), BuildError>
+        ensures { λ r. ⌜ saidOf (λ _. tableOf (now (self .exit))) buildRefusal r ≡ fillSays (L·Lookahead .policy (now (look .entry))) (productionsOf (now (rules .entry))) ⌝ }
+    {
+        if rules.len() > MOST_RULES {
+            return Err(BuildError::Rules);
+        }
+        self.fill_few(rules, look)
     }
 
     // The rows of the states, in order.
@@ -122,13 +139,19 @@ impl Tables {
         rows[state].at(symbol)
     }
 
-    // Writes the row of a state as numbers.
-    pub fn encode(&self, state: usize, out: &mut [u16])
-        requires known { ⌜ state < length (tableOf (now self)) ⌝ }
-        requires room { ⌜ length (now out) ≡ symbolCount ⌝ }
-        ensures { λ _. ⌜ now (out .exit) ≡ map wordOf (getD (tableOf (now (self .entry))) state []) ⌝ }
+    // Writes the row of a state as numbers at the start of a buffer, and answers how many they are.
+    pub fn row(&self, state: usize, out: &mut [u16]) -> Result<usize, RowError>
+        ensures answer { λ r. ⌜ said rowRefusal r ≡ rowSays (tableOf (now (self .entry))) state (length (now (out .entry))) ⌝ }
+        ensures out { λ _. ⌜ now (out .exit) ≡ rowIn (tableOf (now (self .entry))) state (now (out .entry)) ⌝ }
     {
+        if out.len() < SYMBOLS {
+            return Err(RowError::Short);
+        }
         let rows = self.rows();
-        encode(&rows[state], out);
+        if state >= rows.len() {
+            return Err(RowError::State);
+        }
+        encode(&rows[state], &mut out[0..SYMBOLS]);
+        Ok(SYMBOLS)
     }
 }

@@ -30,7 +30,7 @@ fn open(set: &SymbolSet, rules: &[Rule], items: &mut [DotRow]) -> bool
 }
 
 // Rounds until nothing changes: each but the last puts a rule in, so that as many as there are rules are enough.
-pub fn close(rules: &[Rule], items: &mut [DotRow])
+pub(crate) fn close(rules: &[Rule], items: &mut [DotRow])
     requires rows { ⌜ length (now items) ≡ length (now rules) + 1 ⌝ }
     ensures { λ _. ⌜ now (items .exit) ≡ close (linesOf (now (rules .entry))) (now (items .entry)) ⌝ }
 {

@@ -25,7 +25,7 @@ pub fn word_of(action: Action) -> u16
 }
 
 // Writes the actions of a row as numbers, one for each symbol.
-pub fn encode(row: &Row, out: &mut [u16])
+pub(crate) fn encode(row: &Row, out: &mut [u16])
     requires { ⌜ length (now out) ≡ symbolCount ⌝ }
     ensures { λ _. ⌜ now (out .exit) ≡ map wordOf (actsOf (now (row .entry))) ⌝ }
 {

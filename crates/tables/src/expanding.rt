@@ -62,7 +62,7 @@ fn expand_by(sets: &RelationSets, rules: &[Rule], number: usize, ahead: &SymbolS
 }
 
 // The items of a state from its closed kernel, which `items` holds at first.
-pub fn expand<L: Lookahead>(look: &L, sets: &RelationSets, rules: &[Rule], closed: &[DotRow], items: &mut [DotRow])
+pub(crate) fn expand<L: Lookahead>(look: &L, sets: &RelationSets, rules: &[Rule], closed: &[DotRow], items: &mut [DotRow])
     requires rows { ⌜ length (now closed) ≡ length (now rules) + 1 ⌝ }
     requires same { ⌜ now items ≡ now closed ⌝ }
     ensures { λ _. ⌜ now (items .exit) ≡ itemsFrom (L·Lookahead .policy (now (look .entry))) (relatedBy (now (sets .entry)) (productionsOf (now (rules .entry)))) (now (closed .entry)) ⌝ }

@@ -67,7 +67,7 @@ fn first_dotted(items: &[DotRow]) -> usize
 
 // The number of the first of m kernels that is this one; m if none is.
 // Few kernels have a dot where this one has its first: that row is compared before the others.
-pub fn number_of(kernels: &Kernels, m: usize, fresh: &[DotRow]) -> usize
+pub(crate) fn number_of(kernels: &Kernels, m: usize, fresh: &[DotRow]) -> usize
     requires some { ⌜ 0 < length (now fresh) ⌝ }
     requires room { ⌜ length (now fresh) ≤ 101 ⌝ }
     requires most { ⌜ m ≤ 200 ⌝ }

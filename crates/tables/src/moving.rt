@@ -32,7 +32,7 @@ fn move_row(right: &[u8], row: &DotRow, symbol: u8) -> DotRow
 }
 
 // The kernel over a symbol.
-pub fn onward(rules: &[Rule], items: &[DotRow], symbol: u8) -> ItemSet
+pub(crate) fn onward(rules: &[Rule], items: &[DotRow], symbol: u8) -> ItemSet
     requires rows { ⌜ length (now items) ≡ length (now rules) + 1 ⌝ }
     requires room { ⌜ length (now items) ≤ 101 ⌝ }
     ensures { λ r. ⌜ take (length (now (items .entry))) r ≡ onward symbol (linesOf (now (rules .entry))) (now (items .entry)) ⌝ }

@@ -26,7 +26,7 @@ use crate::moving::MOST_NUMBERED;
 use crate::moving::onward;
 
 // The kernel of state 0: the outer rule with its dot at 0.
-pub fn start_kernel(rules: &[Rule]) -> ItemSet
+pub(crate) fn start_kernel(rules: &[Rule]) -> ItemSet
     requires few { ⌜ length (now rules) ≤ mostRules ⌝ }
     ensures { λ r. ⌜ rowsFor (now (rules .entry)) r ≡ startKernel (linesOf (now (rules .entry))) ⌝ }
 {
@@ -36,7 +36,7 @@ pub fn start_kernel(rules: &[Rule]) -> ItemSet
 }
 
 // A kernel, closed.
-pub fn closed(rules: &[Rule], kernel: &ItemSet) -> ItemSet
+pub(crate) fn closed(rules: &[Rule], kernel: &ItemSet) -> ItemSet
     requires few { ⌜ length (now rules) ≤ mostRules ⌝ }
     ensures { λ r. ⌜ rowsFor (now (rules .entry)) r ≡ close (linesOf (now (rules .entry))) (rowsFor (now (rules .entry)) (now (kernel .entry))) ⌝ }
 {
@@ -47,7 +47,7 @@ pub fn closed(rules: &[Rule], kernel: &ItemSet) -> ItemSet
 }
 
 // The items of a state, from its closed kernel.
-pub fn expanded<L: Lookahead>(look: &L, sets: &RelationSets, rules: &[Rule], closed: &ItemSet) -> ItemSet
+pub(crate) fn expanded<L: Lookahead>(look: &L, sets: &RelationSets, rules: &[Rule], closed: &ItemSet) -> ItemSet
     requires few { ⌜ length (now rules) ≤ mostRules ⌝ }
     ensures { λ r. ⌜ rowsFor (now (rules .entry)) r ≡ itemsFrom (L·Lookahead .policy (now (look .entry))) (relatedBy (now (sets .entry)) (productionsOf (now (rules .entry)))) (rowsFor (now (rules .entry)) (now (closed .entry))) ⌝ }
 {
@@ -94,7 +94,7 @@ fn visit(kernels: &mut Kernels, m: usize, rules: &[Rule], items: &[DotRow]) -> O
 }
 
 // The kernels of all states: how many there are, or None where they are too many.
-pub fn explore<L: Lookahead>(look: &L, sets: &RelationSets, rules: &[Rule], kernels: &mut Kernels) -> Option<usize>
+pub(crate) fn explore<L: Lookahead>(look: &L, sets: &RelationSets, rules: &[Rule], kernels: &mut Kernels) -> Option<usize>
     requires few { ⌜ length (now rules) ≤ mostRules ⌝ }
     requires first { ⌜ heldIn (length (now rules) + 1) 1 (now kernels) ≡ startKernel (linesOf (now rules)) ∷ [] ⌝ }
     ensures { λ r. ⌜ Found (length (now (rules .entry)) + 1) (kernelsOf (L·Lookahead .policy (now (look .entry))) (relatedBy (now (sets .entry)) (productionsOf (now (rules .entry))))) (now (kernels .exit)) r ⌝ }
