@@ -23,12 +23,12 @@ use Rattle.tables.specs.Kept.{linesOf}
 
 -- a list that is changed in place, element by element, by its places
 pub places-more : {Y : Type 0} (F : ℕ → List Y → List Y) (g : ℕ → Y → Y) → ((q : ℕ) (y : Y) (ys : List Y) → F q (y ∷ ys) ≡ g q y ∷ F (suc q) ys)
-  → (ys : List Y) (k : ℕ) (e v : Y) → k < length ys → v ≡ g k (getD ys k e)
-  → take (k + 1) (set ys k v) ++ F (k + 1) (drop (k + 1) (set ys k v)) ≡ take k ys ++ F k (drop k ys)
+    → (ys : List Y) (k : ℕ) (e v : Y) → k < length ys → v ≡ g k (getD ys k e)
+    → take (k + 1) (set ys k v) ++ F (k + 1) (drop (k + 1) (set ys k v)) ≡ take k ys ++ F k (drop k ys)
 places-more F g step ys k e v i is =
     let n : suc k ≡ k + 1 = omega arith in
     let f : F k (drop k ys) ≡ g k (getD ys k e) ∷ F (k + 1) (drop (k + 1) ys) =
-      ap (F k) (drop-more ys k e i) ∙ step k (getD ys k e) (drop (k + 1) ys) ∙ ap (λ m. g k (getD ys k e) ∷ F m (drop (k + 1) ys)) n in
+    ap (F k) (drop-more ys k e i) ∙ step k (getD ys k e) (drop (k + 1) ys) ∙ ap (λ m. g k (getD ys k e) ∷ F m (drop (k + 1) ys)) n in
     ap₂ (λ t u. t ++ F (k + 1) u) (take-more-set ys k v i) (drop-set-lt (k + 1) ys k v (omega arith))
     ∙ append-assoc (take k ys) (v ∷ []) (F (k + 1) (drop (k + 1) ys))
     ∙ ap (λ w. take k ys ++ w ∷ F (k + 1) (drop (k + 1) ys)) is ∙ ap (λ q. take k ys ++ q) (sym f)
@@ -65,7 +65,7 @@ twice true true [] = refl
 twice true true (x ∷ row) = refl
 
 add-or : (p t : ℕ → Bool) (k : ℕ) (rows : Items)
-  → addRules (λ q. elim (p q) [ true ↦ true | false ↦ t q ]) k rows ≡ addRules t k (addRules (λ q. elim (p q) [ true ↦ true | false ↦ false ]) k rows)
+    → addRules (λ q. elim (p q) [ true ↦ true | false ↦ t q ]) k rows ≡ addRules t k (addRules (λ q. elim (p q) [ true ↦ true | false ↦ false ]) k rows)
 add-or p t k [] = refl
 add-or p t k (row ∷ rows) = ap₂ _∷_ (twice (p k) (t k) row) (add-or p t (suc k) rows)
 
@@ -97,7 +97,7 @@ module _ (rs : List Rule) (q : ℕ) (l : 1 ≤ q) (h : q ≤ length rs) where
 
 -- a lookahead as a set says what the policy says
 pub expand-by-set : (rel : Relations) (rs : List Rule) (look : Look) (r : ℕ) (rows : Items) → rel .lines ≡ linesOf rs → length rows ≤ length rs + 1
-  → expandFor rel (λ _. has (map (look r) codes)) (r ∷ []) rows ≡ expandFor rel look (r ∷ []) rows
+    → expandFor rel (λ _. has (map (look r) codes)) (r ∷ []) rows ≡ expandFor rel look (r ∷ []) rows
 expand-by-set rel rs look r [] is h = refl
 expand-by-set rel rs look r (row ∷ rows) is h = ap (λ q. row ∷ q) (add-ext _ _ 1 rows (λ q l k. ap (λ b. elim b [ true ↦ true | false ↦ false ]) (said q l (omega arith))))
   where

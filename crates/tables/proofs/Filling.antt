@@ -28,19 +28,19 @@ module _ (policy : Policy) (rel : Relations) (n m : ℕ) (kernels : List Items) 
 
   pub rows-at : (s : ℕ) → s < m → getD (rowsOf policy rel (heldIn n m kernels)) s [] ≡ rowOf policy rel (heldIn n m kernels) (close (rel .lines) (take n (getD kernels s [])))
   rows-at s h =
-    let row : Items → List Act = λ k. rowOf policy rel held (close (rel .lines) k) in
-    getD-map row held s [] [] (omega (arith, held-long n m kernels wide)) ∙ ap row (held-at n m s kernels h wide)
+      let row : Items → List Act = λ k. rowOf policy rel held (close (rel .lines) k) in
+      getD-map row held s [] [] (omega (arith, held-long n m kernels wide)) ∙ ap row (held-at n m s kernels h wide)
 
 -- The conflict of the lowest state.
 
 module _ (all : List (List Act)) where
   turn : (s : ℕ) (o : Option ℕ) → s < length all → conflictIn 0 (getD all s []) ≡ o
-    → conflictFrom s (drop s all) ≡ elim o [ Some x ↦ Some (s, x) | None ↦ conflictFrom (s + 1) (drop (s + 1) all) ]
+      → conflictFrom s (drop s all) ≡ elim o [ Some x ↦ Some (s, x) | None ↦ conflictFrom (s + 1) (drop (s + 1) all) ]
   turn s o h e =
-    let f : suc s ≡ s + 1 = omega arith in
-    let step : conflictFrom s (drop s all) ≡ elim (conflictIn 0 (getD all s [])) [ Some x ↦ Some (s, x) | None ↦ conflictFrom (suc s) (drop (s + 1) all) ] =
+      let f : suc s ≡ s + 1 = omega arith in
+      let step : conflictFrom s (drop s all) ≡ elim (conflictIn 0 (getD all s [])) [ Some x ↦ Some (s, x) | None ↦ conflictFrom (suc s) (drop (s + 1) all) ] =
       at-drop-more (conflictFrom s) all s [] h in
-    step ∙ ap₂ (λ b k. elim b [ Some x ↦ Some (s, x) | None ↦ conflictFrom k (drop (s + 1) all) ]) e f
+      step ∙ ap₂ (λ b k. elim b [ Some x ↦ Some (s, x) | None ↦ conflictFrom k (drop (s + 1) all) ]) e f
 
   pub conflict-here : (s x : ℕ) → s < length all → conflictIn 0 (getD all s []) ≡ Some x → conflictFrom s (drop s all) ≡ Some (s, x)
   conflict-here s x h e = turn s (Some x) h e

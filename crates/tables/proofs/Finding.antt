@@ -46,18 +46,18 @@ module _ (lines : List Production) (items : Items) (read : Flags) where
   next-grows (x ∷ xs) ks = go (next-grows xs) (has read x)
     where
       go : ((js : List Items) → length js ≤ length (withNext lines items read xs js)) → (b : Bool)
-        → length ks ≤ length (withNext lines items read xs (elim b [ true ↦ withKernel ks (onward x lines items) | false ↦ ks ]))
+          → length ks ≤ length (withNext lines items read xs (elim b [ true ↦ withKernel ks (onward x lines items) | false ↦ ks ]))
       go more true = omega (arith, more (withKernel ks (onward x lines items)), kernel-grows ks (onward x lines items))
       go more false = more ks
 
   pub next-more : (ks : List Items) (x : ℕ) (t : Bool) → x < symbolCount → has read x ≡ t
-    → withNext lines items read (upFrom x (symbolCount - x)) ks
+      → withNext lines items read (upFrom x (symbolCount - x)) ks
       ≡ withNext lines items read (upFrom (x + 1) (symbolCount - (x + 1))) (elim t [ true ↦ withKernel ks (onward x lines items) | false ↦ ks ])
   next-more ks x t h e =
-    let rest = upFrom (x + 1) (symbolCount - (x + 1)) in
-    let step : withNext lines items read (upFrom x (symbolCount - x)) ks ≡ withNext lines items read rest (elim (has read x) [ true ↦ withKernel ks (onward x lines items) | false ↦ ks ]) =
+      let rest = upFrom (x + 1) (symbolCount - (x + 1)) in
+      let step : withNext lines items read (upFrom x (symbolCount - x)) ks ≡ withNext lines items read rest (elim (has read x) [ true ↦ withKernel ks (onward x lines items) | false ↦ ks ]) =
       ap (λ q. withNext lines items read q ks) (up-more symbolCount x h) in
-    step ∙ ap (λ b. withNext lines items read rest (elim b [ true ↦ withKernel ks (onward x lines items) | false ↦ ks ])) e
+      step ∙ ap (λ b. withNext lines items read rest (elim b [ true ↦ withKernel ks (onward x lines items) | false ↦ ks ])) e
 
 -- The states in turn.
 
@@ -67,20 +67,20 @@ module _ (policy : Policy) (rel : Relations) where
   explore-grows (suc n) i ks = go (explore-grows n (suc i)) (ltb i (length ks))
     where
       go : ((js : List Items) → length js ≤ length (explore policy rel n (suc i) js)) → (b : Bool)
-        → length ks ≤ length {A = Items} (elim b [ true ↦ explore policy rel n (suc i) (visit (rel .lines) (itemsOf policy rel (getD ks i [])) ks) | false ↦ ks ])
+          → length ks ≤ length {A = Items} (elim b [ true ↦ explore policy rel n (suc i) (visit (rel .lines) (itemsOf policy rel (getD ks i [])) ks) | false ↦ ks ])
       go more true =
-        let items = itemsOf policy rel (getD ks i []) in
-        omega (arith, more (visit (rel .lines) items ks), next-grows (rel .lines) items (reads (rel .lines) items) codes ks)
+          let items = itemsOf policy rel (getD ks i []) in
+          omega (arith, more (visit (rel .lines) items ks), next-grows (rel .lines) items (reads (rel .lines) items) codes ks)
       go more false = omega arith
 
   pub explore-more : (i : ℕ) (ks : List Items) → i < mostStates → i < length ks
-    → explore policy rel (mostStates - i) i ks ≡ explore policy rel (mostStates - (i + 1)) (i + 1) (visit (rel .lines) (itemsOf policy rel (getD ks i [])) ks)
+      → explore policy rel (mostStates - i) i ks ≡ explore policy rel (mostStates - (i + 1)) (i + 1) (visit (rel .lines) (itemsOf policy rel (getD ks i [])) ks)
   explore-more i ks h l =
-    let e : mostStates - i ≡ suc (mostStates - (i + 1)) = omega arith in
-    let f : suc i ≡ i + 1 = omega arith in
-    let m = mostStates - (i + 1) in
-    let next = visit (rel .lines) (itemsOf policy rel (getD ks i [])) ks in
-    ap (λ n. explore policy rel n i ks) e ∙ ap (λ b. elim b [ true ↦ explore policy rel m (suc i) next | false ↦ ks ]) (lt-ltb i (length ks) l) ∙ ap (λ j. explore policy rel m j next) f
+      let e : mostStates - i ≡ suc (mostStates - (i + 1)) = omega arith in
+      let f : suc i ≡ i + 1 = omega arith in
+      let m = mostStates - (i + 1) in
+      let next = visit (rel .lines) (itemsOf policy rel (getD ks i [])) ks in
+      ap (λ n. explore policy rel n i ks) e ∙ ap (λ b. elim b [ true ↦ explore policy rel m (suc i) next | false ↦ ks ]) (lt-ltb i (length ks) l) ∙ ap (λ j. explore policy rel m j next) f
 
   pub explore-end : (n i : ℕ) (ks : List Items) → length ks ≤ i → explore policy rel n i ks ≡ ks
   explore-end zero i ks h = refl

@@ -17,10 +17,11 @@ use Rattle.tables.specs.Acts.{cellAct, besides, reduced}
 
 -- a table that is filled place by place, as what its elements stand for
 pub mapped-more : {A B : Type 0} (h : A → B) (g : ℕ → B) (n : ℕ) (all : List A) (x : ℕ) (v : A) → x < n → length all ≡ n → h v ≡ g x → map h (take x all) ≡ map g (upFrom 0 x)
-  → (length (set all x v) ≡ n) × (map h (take (x + 1) (set all x v)) ≡ map g (upFrom 0 (x + 1)))
-mapped-more h g n all x v l long e inv =
-    (length-set all x v ∙ long,
-     ap (map h) (take-more-set all x v (omega arith)) ∙ map-push h (take x all) v ∙ ap₂ (λ t w. t ++ w ∷ []) inv e ∙ sym (table-more g x))
+    → (length (set all x v) ≡ n) × (map h (take (x + 1) (set all x v)) ≡ map g (upFrom 0 (x + 1)))
+mapped-more h g n all x v l long e inv = (
+  length-set all x v ∙ long,
+  ap (map h) (take-more-set all x v (omega arith)) ∙ map-push h (take x all) v ∙ ap₂ (λ t w. t ++ w ∷ []) inv e ∙ sym (table-more g x),
+)
 
 pub mapped-done : {A B : Type 0} (h : A → B) (g : ℕ → B) (n : ℕ) (all : List A) (x : ℕ) → n ≤ x → x ≤ n → length all ≡ n → map h (take x all) ≡ map g (upFrom 0 x) → map h all ≡ map g (upFrom 0 n)
 mapped-done h g n all x low high long inv =
@@ -29,12 +30,12 @@ mapped-done h g n all x low high long inv =
 
 -- one cell more
 pub conflict-step : (cells : List Cell) (x : ℕ) (t : Bool) → x < length cells → isConflict (cellAct (getD cells x Free)) ≡ t
-  → conflictIn x (map cellAct (drop x cells)) ≡ elim t [ true ↦ Some x | false ↦ conflictIn (x + 1) (map cellAct (drop (x + 1) cells)) ]
+    → conflictIn x (map cellAct (drop x cells)) ≡ elim t [ true ↦ Some x | false ↦ conflictIn (x + 1) (map cellAct (drop (x + 1) cells)) ]
 conflict-step cells x t h e =
     let f : suc x ≡ x + 1 = omega arith in
     let rest = map cellAct (drop (x + 1) cells) in
     let step : conflictIn x (map cellAct (drop x cells)) ≡ elim (isConflict (cellAct (getD cells x Free))) [ true ↦ Some x | false ↦ conflictIn (suc x) rest ] =
-      at-drop-more (λ q. conflictIn x (map cellAct q)) cells x Free h in
+    at-drop-more (λ q. conflictIn x (map cellAct q)) cells x Free h in
     step ∙ ap₂ (λ b y. elim b [ true ↦ Some x | false ↦ conflictIn y rest ]) e f
 
 -- Complete rules in turn.
@@ -52,6 +53,6 @@ reduced-is look (r ∷ rs) f =
 
 -- one number more
 pub reduced-more : (look : Look) (p : ℕ → Bool) (n k : ℕ) (t : Bool) (acts : List Act) → k < n → p k ≡ t
-  → reduced look (keep p (upFrom k (n - k))) acts ≡ reduced look (keep p (upFrom (k + 1) (n - (k + 1)))) (elim t [ true ↦ besides (reduceBy k) (lookaheadOf look k) acts | false ↦ acts ])
+    → reduced look (keep p (upFrom k (n - k))) acts ≡ reduced look (keep p (upFrom (k + 1) (n - (k + 1)))) (elim t [ true ↦ besides (reduceBy k) (lookaheadOf look k) acts | false ↦ acts ])
 reduced-more look p n k true acts h e = ap (λ rs. reduced look rs acts) (keep-more p n k h true e)
 reduced-more look p n k false acts h e = ap (λ rs. reduced look rs acts) (keep-more p n k h false e)

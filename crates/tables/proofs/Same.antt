@@ -43,9 +43,9 @@ differ-at (x ∷ a) (y ∷ b) (suc k) h l e =
 
 -- one kernel more
 pub number-step : (n m i : ℕ) (ks : List Items) (f : Items) (t : Bool) → i < m → m ≤ length ks → sameItems (take n (getD ks i [])) f ≡ t
-  → numberOf (map (take n) (drop i (take m ks))) f ≡ elim t [ true ↦ 0 | false ↦ suc (numberOf (map (take n) (drop (i + 1) (take m ks))) f) ]
+    → numberOf (map (take n) (drop i (take m ks))) f ≡ elim t [ true ↦ 0 | false ↦ suc (numberOf (map (take n) (drop (i + 1) (take m ks))) f) ]
 number-step n m i ks f t h l e =
     let rest = numberOf (map (take n) (drop (i + 1) (take m ks))) f in
     let step : numberOf (map (take n) (drop i (take m ks))) f ≡ elim (sameItems (take n (getD (take m ks) i [])) f) [ true ↦ 0 | false ↦ suc rest ] =
-      at-drop-more (λ q. numberOf (map (take n) q) f) (take m ks) i [] (simp length-take (omega arith)) in
+    at-drop-more (λ q. numberOf (map (take n) q) f) (take m ks) i [] (simp length-take (omega arith)) in
     step ∙ ap (λ b. elim b [ true ↦ 0 | false ↦ suc rest ]) (ap (λ q. sameItems (take n q) f) (getD-take m ks i [] h) ∙ e)

@@ -13,6 +13,12 @@ ghost use Rattle.grammar.specs.Sets.{codes, symbolCount};
 ghost use Rattle.grammar.specs.States.{mostStates};
 ghost use Rattle.tables.specs.Acts.{actOf, actsOf, cellAct, shiftAt, besides, Settled, Chosen, reduced};
 ghost use Rattle.tables.specs.Kept.{linesOf, rowsFor, heldIn};
+use crate::kernels::Kernels;
+use crate::kernels::number_of;
+use crate::moving::ItemSet;
+use crate::moving::onward;
+use crate::states::closed;
+use crate::states::expanded;
 use book::rules::Rule;
 use grammar::items::DotRow;
 use grammar::items::is_complete;
@@ -21,12 +27,6 @@ use grammar::lookaheads::Lookahead;
 use grammar::relations::RelationSets;
 use grammar::sets::SYMBOLS;
 use grammar::sets::SymbolSet;
-use crate::kernels::Kernels;
-use crate::kernels::number_of;
-use crate::moving::ItemSet;
-use crate::moving::onward;
-use crate::states::closed;
-use crate::states::expanded;
 
 #[derive(Clone, Copy)]
 pub enum Action {
@@ -49,7 +49,11 @@ impl Row {
     {
         let actions = &self.actions[0..SYMBOLS];
         let x = symbol as usize;
-        if x < SYMBOLS { actions[x] } else { Action::None }
+        if x < SYMBOLS {
+            actions[x]
+        } else {
+            Action::None
+        }
     }
 }
 
@@ -109,7 +113,14 @@ fn settle(cells: &Cells) -> Result<Row, u8>
 }
 
 // The shift over a symbol, where the set has it.
-fn shift_over(kernels: &Kernels, m: usize, rules: &[Rule], items: &[DotRow], set: &SymbolSet, x: usize) -> Cell
+fn shift_over(
+    kernels: &Kernels,
+    m: usize,
+    rules: &[Rule],
+    items: &[DotRow],
+    set: &SymbolSet,
+    x: usize,
+) -> Cell
     requires rows { ⌜ length (now items) ≡ length (now rules) + 1 ⌝ }
     requires few { ⌜ length (now rules) ≤ mostRules ⌝ }
     requires most { ⌜ m ≤ mostStates ⌝ }
@@ -151,7 +162,13 @@ fn reduce_by(cells: &mut Cells, ahead: &SymbolSet, number: u8)
 }
 
 // The lookahead of a complete rule; that of the outer rule is the end mark alone.
-fn ahead_of<L: Lookahead>(look: &L, sets: &RelationSets, rules: &[Rule], closed: &[DotRow], number: usize) -> SymbolSet
+fn ahead_of<L: Lookahead>(
+    look: &L,
+    sets: &RelationSets,
+    rules: &[Rule],
+    closed: &[DotRow],
+    number: usize,
+) -> SymbolSet
     ensures { λ r. ⌜ r ≡ lookaheadOf (L·Lookahead .policy (now (look .entry)) (relatedBy (now (sets .entry)) (productionsOf (now (rules .entry)))) (now (closed .entry))) number ⌝ }
 {
     if number == 0 {
@@ -163,7 +180,13 @@ fn ahead_of<L: Lookahead>(look: &L, sets: &RelationSets, rules: &[Rule], closed:
 }
 
 // The complete rules of a closed set act beside what is there.
-fn reduce_all<L: Lookahead>(look: &L, sets: &RelationSets, rules: &[Rule], closed: &[DotRow], cells: &mut Cells)
+fn reduce_all<L: Lookahead>(
+    look: &L,
+    sets: &RelationSets,
+    rules: &[Rule],
+    closed: &[DotRow],
+    cells: &mut Cells,
+)
     requires rows { ⌜ length (now closed) ≡ length (now rules) + 1 ⌝ }
     requires few { ⌜ length (now rules) ≤ mostRules ⌝ }
     ensures { λ _. ⌜ map cellAct (now (cells .exit)) ≡ reduced (L·Lookahead .policy (now (look .entry)) (relatedBy (now (sets .entry)) (productionsOf (now (rules .entry)))) (now (closed .entry))) (completeIn (linesOf (now (rules .entry))) (now (closed .entry))) (map cellAct (now (cells .entry))) ⌝ }
@@ -178,7 +201,14 @@ fn reduce_all<L: Lookahead>(look: &L, sets: &RelationSets, rules: &[Rule], close
 }
 
 // The row in the making of a state, from its closed kernel.
-fn cells_of<L: Lookahead>(look: &L, sets: &RelationSets, rules: &[Rule], kernels: &Kernels, m: usize, closed: &ItemSet) -> Cells
+fn cells_of<L: Lookahead>(
+    look: &L,
+    sets: &RelationSets,
+    rules: &[Rule],
+    kernels: &Kernels,
+    m: usize,
+    closed: &ItemSet,
+) -> Cells
     requires few { ⌜ length (now rules) ≤ mostRules ⌝ }
     requires most { ⌜ m ≤ mostStates ⌝ }
     ensures { λ r. ⌜ map cellAct r ≡ rowOf (L·Lookahead .policy (now (look .entry))) (relatedBy (now (sets .entry)) (productionsOf (now (rules .entry)))) (heldIn (length (now (rules .entry)) + 1) m (now (kernels .entry))) (rowsFor (now (rules .entry)) (now (closed .entry))) ⌝ }
@@ -191,7 +221,14 @@ fn cells_of<L: Lookahead>(look: &L, sets: &RelationSets, rules: &[Rule], kernels
 }
 
 // The row of a state, or the lowest symbol in conflict.
-pub(crate) fn row_of<L: Lookahead>(look: &L, sets: &RelationSets, rules: &[Rule], kernels: &Kernels, m: usize, state: usize) -> Result<Row, u8>
+pub(crate) fn row_of<L: Lookahead>(
+    look: &L,
+    sets: &RelationSets,
+    rules: &[Rule],
+    kernels: &Kernels,
+    m: usize,
+    state: usize,
+) -> Result<Row, u8>
     requires few { ⌜ length (now rules) ≤ mostRules ⌝ }
     requires most { ⌜ m ≤ mostStates ⌝ }
     requires known { ⌜ state < m ⌝ }

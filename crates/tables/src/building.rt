@@ -12,12 +12,6 @@ ghost use Rattle.grammar.specs.States.{mostStates};
 ghost use Rattle.tables.specs.Acts.{actOf, actsOf};
 ghost use Rattle.tables.specs.Built.{tableOf, buildRefusal, fillSays, rowRefusal, rowSays, rowIn};
 ghost use Rattle.tables.specs.Kept.{heldIn};
-use book::books::MOST_RULES;
-use book::rules::Rule;
-use grammar::lookaheads::Lookahead;
-use grammar::relations::RelationSets;
-use grammar::sets::SYMBOLS;
-use grammar::useful::useless;
 use crate::actions::Action;
 use crate::actions::Row;
 use crate::actions::row_of;
@@ -26,6 +20,12 @@ use crate::kernels::Kernels;
 use crate::kernels::MOST_STATES;
 use crate::states::explore;
 use crate::states::start_kernel;
+use book::books::MOST_RULES;
+use book::rules::Rule;
+use grammar::lookaheads::Lookahead;
+use grammar::relations::RelationSets;
+use grammar::sets::SYMBOLS;
+use grammar::useful::useless;
 
 // How many rows belong to a state.
 #[derive(Clone, Copy)]
@@ -58,7 +58,12 @@ impl Tables {
     pub fn new() -> Tables
         ensures { λ r. ⌜ tableOf r ≡ [] ⌝ }
     {
-        Tables { rows: [Row { actions: [Action::None; SYMBOLS] }; MOST_STATES], size: Size { states: 0 } }
+        Tables {
+            rows: [Row {
+                actions: [Action::None; SYMBOLS],
+            }; MOST_STATES],
+            size: Size { states: 0 },
+        }
     }
 
     // Puts in the row of a state, behind those before it.
@@ -70,7 +75,14 @@ impl Tables {
     }
 
     // The rows of the states with these m kernels, as far as none has a conflict.
-    fn fill_rows<L: Lookahead>(&mut self, look: &L, sets: &RelationSets, rules: &[Rule], kernels: &Kernels, m: usize) -> Result<(), BuildError>
+    fn fill_rows<L: Lookahead>(
+        &mut self,
+        look: &L,
+        sets: &RelationSets,
+        rules: &[Rule],
+        kernels: &Kernels,
+        m: usize,
+    ) -> Result<(), BuildError>
         requires few { ⌜ length (now rules) ≤ mostRules ⌝ }
         requires most { ⌜ m ≤ mostStates ⌝ }
         ensures { λ r. ⌜ saidOf (λ _. tableOf (now (self .exit))) buildRefusal r ≡ withoutConflict (rowsOf (L·Lookahead .policy (now (look .entry))) (relatedBy (now (sets .entry)) (productionsOf (now (rules .entry)))) (heldIn (length (now (rules .entry)) + 1) m (now (kernels .entry)))) ⌝ }
@@ -86,7 +98,12 @@ impl Tables {
     }
 
     // The tables of rules of which these are the relations.
-    fn construct<L: Lookahead>(&mut self, look: &L, sets: &RelationSets, rules: &[Rule]) -> Result<(), BuildError>
+    fn construct<L: Lookahead>(
+        &mut self,
+        look: &L,
+        sets: &RelationSets,
+        rules: &[Rule],
+    ) -> Result<(), BuildError>
         requires few { ⌜ length (now rules) ≤ mostRules ⌝ }
         ensures { λ r. ⌜ saidOf (λ _. tableOf (now (self .exit))) buildRefusal r ≡ builtBy (L·Lookahead .policy (now (look .entry))) (relatedBy (now (sets .entry)) (productionsOf (now (rules .entry)))) ⌝ }
     {

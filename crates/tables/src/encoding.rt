@@ -4,12 +4,14 @@ ghost use mathlib.Core.Path.{_≡_};
 ghost use lib.ListN.{length};
 ghost use Rattle.grammar.specs.Sets.{symbolCount};
 ghost use Rattle.tables.specs.Acts.{actOf, actsOf, wordOf};
-use grammar::sets::SYMBOLS;
 use crate::actions::Action;
 use crate::actions::Row;
+use grammar::sets::SYMBOLS;
 
 const ACCEPT: u16 = 1;
+
 const SHIFT: u16 = 1000;
+
 const REDUCE: u16 = 2000;
 
 // 0 for none, 1 for accept, 1000 and the state for a shift, 2000 and the rule for a reduction.

@@ -48,7 +48,13 @@ fn calls_for(sets: &RelationSets, rules: &[Rule], left: u8, ahead: &SymbolSet, q
 }
 
 // Puts in the rules that one complete rule with this lookahead calls for.
-fn expand_by(sets: &RelationSets, rules: &[Rule], number: usize, ahead: &SymbolSet, items: &mut [DotRow])
+fn expand_by(
+    sets: &RelationSets,
+    rules: &[Rule],
+    number: usize,
+    ahead: &SymbolSet,
+    items: &mut [DotRow],
+)
     requires rows { ⌜ length (now items) ≡ length (now rules) + 1 ⌝ }
     ensures { λ _. ⌜ now (items .exit) ≡ expandFor (relatedBy (now (sets .entry)) (productionsOf (now (rules .entry)))) (λ _. has (now (ahead .entry))) (number ∷ []) (now (items .entry)) ⌝ }
 {
@@ -62,7 +68,13 @@ fn expand_by(sets: &RelationSets, rules: &[Rule], number: usize, ahead: &SymbolS
 }
 
 // The items of a state from its closed kernel, which `items` holds at first.
-pub(crate) fn expand<L: Lookahead>(look: &L, sets: &RelationSets, rules: &[Rule], closed: &[DotRow], items: &mut [DotRow])
+pub(crate) fn expand<L: Lookahead>(
+    look: &L,
+    sets: &RelationSets,
+    rules: &[Rule],
+    closed: &[DotRow],
+    items: &mut [DotRow],
+)
     requires rows { ⌜ length (now closed) ≡ length (now rules) + 1 ⌝ }
     requires same { ⌜ now items ≡ now closed ⌝ }
     ensures { λ _. ⌜ now (items .exit) ≡ itemsFrom (L·Lookahead .policy (now (look .entry))) (relatedBy (now (sets .entry)) (productionsOf (now (rules .entry)))) (now (closed .entry)) ⌝ }

@@ -5,9 +5,9 @@ ghost use Prim.Native.Nat.{_+_, _<_, _≤_};
 ghost use lib.ListN.{length};
 ghost use Rattle.grammar.specs.States.{sameFlags, sameItems, numberOf};
 ghost use Rattle.tables.specs.Kept.{linesOf, heldIn};
+use crate::moving::ItemSet;
 use grammar::items::DOTS;
 use grammar::items::DotRow;
-use crate::moving::ItemSet;
 
 // How many states there may be.
 pub const MOST_STATES: usize = 200;

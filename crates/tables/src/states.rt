@@ -9,13 +9,6 @@ ghost use Rattle.grammar.specs.Items.{close, startKernel};
 ghost use Rattle.grammar.specs.Relating.{relatedBy};
 ghost use Rattle.grammar.specs.States.{itemsFrom, withKernel, visit, kernelsOf, mostStates};
 ghost use Rattle.tables.specs.Kept.{linesOf, rowsFor, heldIn, Found};
-use book::rules::Rule;
-use grammar::items::DOTS;
-use grammar::items::DotRow;
-use grammar::items::reads;
-use grammar::lookaheads::Lookahead;
-use grammar::relations::RelationSets;
-use grammar::sets::SYMBOLS;
 use crate::closing::close;
 use crate::expanding::expand;
 use crate::kernels::Kernels;
@@ -24,6 +17,13 @@ use crate::kernels::number_of;
 use crate::moving::ItemSet;
 use crate::moving::MOST_NUMBERED;
 use crate::moving::onward;
+use book::rules::Rule;
+use grammar::items::DOTS;
+use grammar::items::DotRow;
+use grammar::items::reads;
+use grammar::lookaheads::Lookahead;
+use grammar::relations::RelationSets;
+use grammar::sets::SYMBOLS;
 
 // The kernel of state 0: the outer rule with its dot at 0.
 pub(crate) fn start_kernel(rules: &[Rule]) -> ItemSet
@@ -47,7 +47,12 @@ pub(crate) fn closed(rules: &[Rule], kernel: &ItemSet) -> ItemSet
 }
 
 // The items of a state, from its closed kernel.
-pub(crate) fn expanded<L: Lookahead>(look: &L, sets: &RelationSets, rules: &[Rule], closed: &ItemSet) -> ItemSet
+pub(crate) fn expanded<L: Lookahead>(
+    look: &L,
+    sets: &RelationSets,
+    rules: &[Rule],
+    closed: &ItemSet,
+) -> ItemSet
     requires few { ⌜ length (now rules) ≤ mostRules ⌝ }
     ensures { λ r. ⌜ rowsFor (now (rules .entry)) r ≡ itemsFrom (L·Lookahead .policy (now (look .entry))) (relatedBy (now (sets .entry)) (productionsOf (now (rules .entry)))) (rowsFor (now (rules .entry)) (now (closed .entry))) ⌝ }
 {
@@ -94,7 +99,12 @@ fn visit(kernels: &mut Kernels, m: usize, rules: &[Rule], items: &[DotRow]) -> O
 }
 
 // The kernels of all states: how many there are, or None where they are too many.
-pub(crate) fn explore<L: Lookahead>(look: &L, sets: &RelationSets, rules: &[Rule], kernels: &mut Kernels) -> Option<usize>
+pub(crate) fn explore<L: Lookahead>(
+    look: &L,
+    sets: &RelationSets,
+    rules: &[Rule],
+    kernels: &mut Kernels,
+) -> Option<usize>
     requires few { ⌜ length (now rules) ≤ mostRules ⌝ }
     requires first { ⌜ heldIn (length (now rules) + 1) 1 (now kernels) ≡ startKernel (linesOf (now rules)) ∷ [] ⌝ }
     ensures { λ r. ⌜ Found (length (now (rules .entry)) + 1) (kernelsOf (L·Lookahead .policy (now (look .entry))) (relatedBy (now (sets .entry)) (productionsOf (now (rules .entry))))) (now (kernels .exit)) r ⌝ }

@@ -34,12 +34,13 @@ loop-number-again g c =
     let k = c .loop-number .number in
     let acts = map cellAct (c .loop-number .cells) in
     let rest = reduced look (keep p (upFrom (k + 1) (n - (k + 1)))) in
-    elim (c .if-is-complete .came)
-    [ then-is-complete w ↦
-        ap rest (ap (map cellAct) (w .cells-is) ∙ w .reduce-by .ensures ∙ ap (λ s. besides (reduceBy k) s acts) (w .ahead-of-ahead .ensures))
-        ∙ sym (reduced-more look p n k true acts (c .loop-number-test .taken) (sym (w .if-is-complete .ensures tt))) ∙ c .loop-number .inv
-    | else-is-complete w ↦
-        ap rest (ap (map cellAct) (w .cells-is)) ∙ sym (reduced-more look p n k false acts (c .loop-number-test .taken) (sym (w .if-is-complete .ensures tt))) ∙ c .loop-number .inv ]
+    elim (c .if-is-complete .came) [
+      | then-is-complete w ↦
+          ap rest (ap (map cellAct) (w .cells-is) ∙ w .reduce-by .ensures ∙ ap (λ s. besides (reduceBy k) s acts) (w .ahead-of-ahead .ensures))
+          ∙ sym (reduced-more look p n k true acts (c .loop-number-test .taken) (sym (w .if-is-complete .ensures tt))) ∙ c .loop-number .inv
+      | else-is-complete w ↦
+          ap rest (ap (map cellAct) (w .cells-is)) ∙ sym (reduced-more look p n k false acts (c .loop-number-test .taken) (sym (w .if-is-complete .ensures tt))) ∙ c .loop-number .inv
+    ]
 
 pub returns : need.returns
 returns g c =

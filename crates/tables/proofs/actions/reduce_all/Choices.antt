@@ -13,5 +13,5 @@ use Rattle.tables.proofs.actions.reduce_all.Given as given
 abbrev pub Inv-loop-number : given.InvT-loop-number
 Inv-loop-number g l =
     reduced (g .L·Lookahead .policy (l .look) (relatedBy (l .sets) (productionsOf (l .rules))) (l .closed))
-      (keep (isComplete (linesOf (l .rules)) (l .closed)) (upFrom (l .number) (length (l .closed) - l .number))) (map cellAct (l .cells))
+    (keep (isComplete (linesOf (l .rules)) (l .closed)) (upFrom (l .number) (length (l .closed) - l .number))) (map cellAct (l .cells))
     ≡ reduced (g .L·Lookahead .policy (l .look) (relatedBy (l .sets) (productionsOf (l .rules))) (l .closed)) (completeIn (linesOf (l .rules)) (l .closed)) (map cellAct (l .entry .cells))

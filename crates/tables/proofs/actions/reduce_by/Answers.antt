@@ -26,15 +26,18 @@ loop-x-again c =
     let long : length acts ≡ 81 = length-map cells cellAct ∙ c .loop-x .inv .0 in
     let here : act ≡ cellAct (getD cells x Free) = getD-map cellAct cells x Free nothing (omega (arith, c .loop-x .inv .0)) in
     let step : (v : Act) → v ≡ put (getD ahead x false) → left (set acts x v) ≡ besides a ahead (map cellAct (c .args .cells .now)) =
-      λ v e. beside-more (besides a) (λ b d. elim b [ true ↦ beside d a | false ↦ d ]) (λ b bs d ds. refl) ahead acts x false nothing v (omega (arith, c .told-ahead)) (omega arith) e ∙ c .loop-x .inv .1 in
-    elim (c .if-ahead-x .came)
-    [ then-ahead-x w ↦
-        (ap length (w .cells-is) ∙ length-set cells x (w .beside .result) ∙ c .loop-x .inv .0,
-         ap left (ap (map cellAct) (w .cells-is) ∙ map-set cellAct cells x (w .beside .result))
-         ∙ step (cellAct (w .beside .result)) (w .beside .ensures ∙ ap (λ d. beside d a) (sym here) ∙ ap put (sym (w .if-ahead-x .taken))))
-    | else-ahead-x w ↦
-        (ap length (w .cells-is) ∙ c .loop-x .inv .0,
-         ap left (ap (map cellAct) (w .cells-is) ∙ sym (set-getD acts x nothing)) ∙ step act (ap put (sym (w .if-ahead-x .left)))) ]
+    λ v e. beside-more (besides a) (λ b d. elim b [ true ↦ beside d a | false ↦ d ]) (λ b bs d ds. refl) ahead acts x false nothing v (omega (arith, c .told-ahead)) (omega arith) e ∙ c .loop-x .inv .1 in
+    elim (c .if-ahead-x .came) [
+      | then-ahead-x w ↦ (
+        ap length (w .cells-is) ∙ length-set cells x (w .beside .result) ∙ c .loop-x .inv .0,
+        ap left (ap (map cellAct) (w .cells-is) ∙ map-set cellAct cells x (w .beside .result))
+            ∙ step (cellAct (w .beside .result)) (w .beside .ensures ∙ ap (λ d. beside d a) (sym here) ∙ ap put (sym (w .if-ahead-x .taken))),
+      )
+      | else-ahead-x w ↦ (
+        ap length (w .cells-is) ∙ c .loop-x .inv .0,
+        ap left (ap (map cellAct) (w .cells-is) ∙ sym (set-getD acts x nothing)) ∙ step act (ap put (sym (w .if-ahead-x .left))),
+      )
+    ]
 
 pub returns : need.returns
 returns c =

@@ -10,4 +10,4 @@ abbrev pub Inv-loop-x : given.InvT-loop-x
 Inv-loop-x l =
     (length (l .cells) ≡ symbolCount)
     × (take (l .x) (map cellAct (l .cells)) ++ besides (reduceBy (l .number)) (drop (l .x) (l .ahead)) (drop (l .x) (map cellAct (l .cells)))
-       ≡ besides (reduceBy (l .number)) (l .ahead) (map cellAct (l .entry .cells)))
+    ≡ besides (reduceBy (l .number)) (l .ahead) (map cellAct (l .entry .cells)))

@@ -21,16 +21,18 @@ loop-x-again c =
     let cells = c .args .cells .now in
     let actions = c .loop-x .actions in
     let x = c .loop-x .x in
-    let v = c .in-Some .action in
-    (length-set actions x v ∙ c .loop-x .inv .0,
-     ap (map actOf) (take-more-set actions x v (omega (arith, c .loop-x .inv .0))) ∙ map-push actOf (take x actions) v
-     ∙ ap₂ (λ t w. t ++ w ∷ []) (c .loop-x .inv .1) (c .in-Some .ensures tt .0) ∙ sym (map-more cellAct cells x Free (omega (arith, c .told-cells))),
-     sym (conflict-step cells x false (omega (arith, c .told-cells)) (c .in-Some .ensures tt .1)) ∙ c .loop-x .inv .2)
+    let v = c .in-Some .action in (
+      length-set actions x v ∙ c .loop-x .inv .0,
+      ap (map actOf) (take-more-set actions x v (omega (arith, c .loop-x .inv .0))) ∙ map-push actOf (take x actions) v
+          ∙ ap₂ (λ t w. t ++ w ∷ []) (c .loop-x .inv .1) (c .in-Some .ensures tt .0) ∙ sym (map-more cellAct cells x Free (omega (arith, c .told-cells))),
+      sym (conflict-step cells x false (omega (arith, c .told-cells)) (c .in-Some .ensures tt .1)) ∙ c .loop-x .inv .2,
+    )
 
 pub returns : need.returns
 returns c =
     let cells = c .args .cells .now in
     let actions = c .loop-x .actions in
-    let x = c .loop-x .x in
-    (sym (c .loop-x .inv .2) ∙ at-drop-all (λ q. conflictIn x (map cellAct q)) cells x (omega (arith, c .told-cells)),
-     ap (map actOf) (sym (take-all x actions (omega (arith, c .loop-x .inv .0)))) ∙ c .loop-x .inv .1 ∙ ap (map cellAct) (take-all x cells (omega (arith, c .told-cells))))
+    let x = c .loop-x .x in (
+      sym (c .loop-x .inv .2) ∙ at-drop-all (λ q. conflictIn x (map cellAct q)) cells x (omega (arith, c .told-cells)),
+      ap (map actOf) (sym (take-all x actions (omega (arith, c .loop-x .inv .0)))) ∙ c .loop-x .inv .1 ∙ ap (map cellAct) (take-all x cells (omega (arith, c .told-cells))),
+    )

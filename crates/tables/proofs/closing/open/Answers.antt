@@ -29,16 +29,19 @@ loop-k-again c =
     let left : Items → Items = λ q. take (k + 1) q ++ opened s (drop (k + 1) lines) (drop (k + 1) q) in
     let wanted : c .contains .result ≡ has s (getD lines k outer .lhs) = c .contains .ensures ∙ ap (has s) (c .left-of .ensures) in
     let step : (v : Flags) → v ≡ insertIf (c .contains .result) row 0 → left (set rows k v) ≡ opened s lines (c .args .items .now) =
-      λ v e. beside-more (opened s) (λ (p : Production) r. insertIf (has s (p .lhs)) r 0) (λ l ls r rs. refl) lines rows k outer [] v
-        (omega (arith, c .pre .rows, length-map (c .args .rules .now) productionOf)) (omega (arith, c .pre .rows)) (e ∙ ap (λ b. insertIf b row 0) wanted)
-        ∙ c .loop-k .inv .0 in
-    elim (c .if-contains-items .came)
-    [ then-contains-items w ↦
-        (ap left (w .items-is) ∙ step (insert row 0) (put-in (c .contains .result) row (w .if-contains-items .taken)),
-         λ e. absurd (both-ways (c .if-contains-items .changed) e (w .changed-is)))
-    | else-contains-items w ↦
-        (ap left (w .items-is ∙ sym (set-getD rows k [])) ∙ step row (left-out (c .contains .result) row (w .if-contains-items .left)),
-         λ e. w .items-is ∙ c .loop-k .inv .1 (sym (w .changed-is) ∙ e)) ]
+    λ v e. beside-more (opened s) (λ (p : Production) r. insertIf (has s (p .lhs)) r 0) (λ l ls r rs. refl) lines rows k outer [] v
+    (omega (arith, c .pre .rows, length-map (c .args .rules .now) productionOf)) (omega (arith, c .pre .rows)) (e ∙ ap (λ b. insertIf b row 0) wanted)
+    ∙ c .loop-k .inv .0 in
+    elim (c .if-contains-items .came) [
+      | then-contains-items w ↦ (
+        ap left (w .items-is) ∙ step (insert row 0) (put-in (c .contains .result) row (w .if-contains-items .taken)),
+        λ e. absurd (both-ways (c .if-contains-items .changed) e (w .changed-is)),
+      )
+      | else-contains-items w ↦ (
+        ap left (w .items-is ∙ sym (set-getD rows k [])) ∙ step row (left-out (c .contains .result) row (w .if-contains-items .left)),
+        λ e. w .items-is ∙ c .loop-k .inv .1 (sym (w .changed-is) ∙ e),
+      )
+    ]
 
 pub returns : need.returns
 returns c =
@@ -49,4 +52,5 @@ returns c =
     let end : drop k lines ≡ [] = drop-all k lines (omega (arith, c .pre .rows, length-map (c .args .rules .now) productionOf)) in
     record {
       after = sym (ap (λ q. take k rows ++ opened s q (drop k rows)) end ∙ take-append-drop k rows) ∙ c .loop-k .inv .0;
-      still = c .loop-k .inv .1 }
+      still = c .loop-k .inv .1;
+    }

@@ -22,7 +22,7 @@ loop-x-again c =
     let words : List ℕ = map wordOf (actsOf row) in
     let array : length (row .actions) ≡ 81 = search needs in
     let at : getD words x 0 ≡ wordOf (actOf (getD (row .actions) x None)) =
-      getD-map wordOf (actsOf row) x (actOf None) 0 (omega (arith, length-map (row .actions) actOf)) ∙ ap wordOf (getD-map actOf (row .actions) x None (actOf None) (omega arith)) in
+    getD-map wordOf (actsOf row) x (actOf None) 0 (omega (arith, length-map (row .actions) actOf)) ∙ ap wordOf (getD-map actOf (row .actions) x None (actOf None) (omega arith)) in
     take-more-set out x (c .word-of .result) (omega (arith, c .pre)) ∙ ap₂ (λ t w. t ++ w ∷ []) (c .loop-x .inv) (c .word-of .ensures ∙ ap (λ a. wordOf (actOf a)) (getD-take 81 (row .actions) x None (omega arith)) ∙ sym at) ∙ sym (take-more words x 0 (omega (arith, words-long row)))
 
 pub returns : need.returns

@@ -19,7 +19,7 @@ returns-then-contains c =
     let line = lineAt (linesOf (c .args .rules .now)) (c .args .q) in
     let ahead = c .args .ahead .now in
     calls-not (leads (relatedBy (c .args .sets .now) (productionsOf (c .args .rules .now))) (c .args .left) (line .lhs)) (has ahead (first line))
-      (ap (λ ws. has ahead (getD ws 0 0)) (sym (c .right-of .ensures)) ∙ sym (c .if-contains .ensures tt))
+    (ap (λ ws. has ahead (getD ws 0 0)) (sym (c .right-of .ensures)) ∙ sym (c .if-contains .ensures tt))
 
 pub returns : need.returns
 returns c =

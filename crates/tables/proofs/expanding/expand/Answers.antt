@@ -37,15 +37,16 @@ loop-number-again g c =
     let items = c .loop-number .items in
     let rest = keep p (upFrom (k + 1) (n - (k + 1))) in
     let long : length items ≤ length (c .args .rules .now) + 1 = omega (arith, c .pre .rows, ap length (c .pre .same)) in
-    elim (c .if-is-complete .came)
-    [ then-is-complete w ↦
-        ap (expandFor rel look rest) (w .items-is ∙ w .expand-by .ensures
+    elim (c .if-is-complete .came) [
+      | then-is-complete w ↦
+          ap (expandFor rel look rest) (w .items-is ∙ w .expand-by .ensures
           ∙ ap (λ s. expandFor rel (λ _. has s) (k ∷ []) items) (w .lookahead-ahead .ensures) ∙ expand-by-set rel (c .args .rules .now) look k items refl long)
-        ∙ sym (expand-more rel look k rest items)
-        ∙ sym (ap (λ rs. expandFor rel look rs items) (keep-more p n k (c .loop-number-test .taken) true (sym (w .if-is-complete .ensures tt)))) ∙ c .loop-number .inv
-    | else-is-complete w ↦
-        ap (expandFor rel look rest) (w .items-is)
-        ∙ sym (ap (λ rs. expandFor rel look rs items) (keep-more p n k (c .loop-number-test .taken) false (sym (w .if-is-complete .ensures tt)))) ∙ c .loop-number .inv ]
+          ∙ sym (expand-more rel look k rest items)
+          ∙ sym (ap (λ rs. expandFor rel look rs items) (keep-more p n k (c .loop-number-test .taken) true (sym (w .if-is-complete .ensures tt)))) ∙ c .loop-number .inv
+      | else-is-complete w ↦
+          ap (expandFor rel look rest) (w .items-is)
+          ∙ sym (ap (λ rs. expandFor rel look rs items) (keep-more p n k (c .loop-number-test .taken) false (sym (w .if-is-complete .ensures tt)))) ∙ c .loop-number .inv
+    ]
 
 pub returns : need.returns
 returns g c =

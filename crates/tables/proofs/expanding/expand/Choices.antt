@@ -13,5 +13,5 @@ use Rattle.tables.proofs.expanding.expand.Given as given
 abbrev pub Inv-loop-number : given.InvT-loop-number
 Inv-loop-number g l =
     expandFor (relatedBy (l .sets) (productionsOf (l .rules))) (g .L·Lookahead .policy (l .look) (relatedBy (l .sets) (productionsOf (l .rules))) (l .closed))
-      (keep (isComplete (linesOf (l .rules)) (l .closed)) (upFrom (l .number) (length (l .closed) - l .number))) (l .items)
+    (keep (isComplete (linesOf (l .rules)) (l .closed)) (upFrom (l .number) (length (l .closed) - l .number))) (l .items)
     ≡ itemsFrom (g .L·Lookahead .policy (l .look)) (relatedBy (l .sets) (productionsOf (l .rules))) (l .closed)

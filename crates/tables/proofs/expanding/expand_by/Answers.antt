@@ -34,12 +34,13 @@ loop-q-again c =
     let row = getD rows q [] in
     let left : Items → Items = λ u. take (q + 1) u ++ addRules p (q + 1) (drop (q + 1) u) in
     let wanted : (b : Bool) → b ≡ callsFor rel (c .left-of-left .result) ahead q → b ≡ p q =
-      λ b e. e ∙ ap (λ a. callsFor rel a ahead q) (c .left-of-left .ensures) ∙ sym (single (expands rel look q (c .args .number))) in
+    λ b e. e ∙ ap (λ a. callsFor rel a ahead q) (c .left-of-left .ensures) ∙ sym (single (expands rel look q (c .args .number))) in
     let step : (b : Bool) → b ≡ callsFor rel (c .left-of-left .result) ahead q → left (set rows q (insertIf b row 0)) ≡ expandFor rel look (c .args .number ∷ []) (c .args .items .now) =
-      λ b e. places-more (addRules p) (λ k r. insertIf (p k) r 0) (λ k y ys. refl) rows q [] (insertIf b row 0) (omega (arith, c .pre)) (ap (λ t. insertIf t row 0) (wanted b e)) ∙ c .loop-q .inv in
-    elim (c .if-calls-for .came)
-    [ then-calls-for w ↦ ap left (w .items-is) ∙ step true (w .if-calls-for .ensures tt)
-    | else-calls-for w ↦ ap left (w .items-is ∙ sym (set-getD rows q [])) ∙ step false (w .if-calls-for .ensures tt) ]
+    λ b e. places-more (addRules p) (λ k r. insertIf (p k) r 0) (λ k y ys. refl) rows q [] (insertIf b row 0) (omega (arith, c .pre)) (ap (λ t. insertIf t row 0) (wanted b e)) ∙ c .loop-q .inv in
+    elim (c .if-calls-for .came) [
+      | then-calls-for w ↦ ap left (w .items-is) ∙ step true (w .if-calls-for .ensures tt)
+      | else-calls-for w ↦ ap left (w .items-is ∙ sym (set-getD rows q [])) ∙ step false (w .if-calls-for .ensures tt)
+    ]
 
 pub returns : need.returns
 returns c =

@@ -12,7 +12,7 @@ use Rattle.tables.proofs.kernels.number_of.Needs.{After-same-by}
 
 -- the number from this turn on, by what is compared
 turn : (c : After-same-by) (t : Bool) → t ≡ sameItems (take (length (c .args .fresh .now) - 0) (getD (c .args .kernels .now) (c .loop-i .i) [])) (c .args .fresh .now)
-  → numberOf (map (take (length (c .args .fresh .now))) (drop (c .loop-i .i) (take (c .args .m) (c .args .kernels .now)))) (c .args .fresh .now)
+    → numberOf (map (take (length (c .args .fresh .now))) (drop (c .loop-i .i) (take (c .args .m) (c .args .kernels .now)))) (c .args .fresh .now)
     ≡ elim t [ true ↦ 0 | false ↦ suc (numberOf (map (take (length (c .args .fresh .now))) (drop (c .loop-i .i + 1) (take (c .args .m) (c .args .kernels .now)))) (c .args .fresh .now)) ]
 turn c t e =
     let f = c .args .fresh .now in

@@ -25,10 +25,11 @@ loop-k-again c =
     let rest = onward x (drop (k + 1) lines) (drop (k + 1) rows) in
     let moved : v ≡ false ∷ before x (getD lines k outer .rhs) row = c .move-row .ensures ∙ ap (λ ws. false ∷ before x ws row) (c .right-of .ensures) in
     let step : onward x (drop k lines) (drop k rows) ≡ (false ∷ before x (getD lines k outer .rhs) row) ∷ rest =
-      at-drops-more (onward x) lines rows k outer [] (omega (arith, c .pre .rows, length-map (c .args .rules .now) productionOf)) (c .loop-k-test .taken) in
-    (length-set next k v ∙ c .loop-k .inv .0,
-     ap (λ q. q ++ rest) (take-more-set next k v (omega (arith, c .loop-k .inv .0, c .pre .room))) ∙ append-assoc (take k next) (v ∷ []) rest
-     ∙ ap (λ q. take k next ++ q ∷ rest) moved ∙ ap (λ q. take k next ++ q) (sym step) ∙ c .loop-k .inv .1)
+    at-drops-more (onward x) lines rows k outer [] (omega (arith, c .pre .rows, length-map (c .args .rules .now) productionOf)) (c .loop-k-test .taken) in (
+      length-set next k v ∙ c .loop-k .inv .0,
+      ap (λ q. q ++ rest) (take-more-set next k v (omega (arith, c .loop-k .inv .0, c .pre .room))) ∙ append-assoc (take k next) (v ∷ []) rest
+          ∙ ap (λ q. take k next ++ q ∷ rest) moved ∙ ap (λ q. take k next ++ q) (sym step) ∙ c .loop-k .inv .1,
+    )
 
 pub returns : need.returns
 returns c =

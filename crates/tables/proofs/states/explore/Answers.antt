@@ -18,8 +18,8 @@ use Rattle.tables.proofs.states.explore.Needs as need
 
 -- what a turn visits, in the words of the definition
 turn : (policy : Policy) (rel : Relations) (n m i : ℕ) (rows : List Items) (made : Items) → i < m → m ≤ length rows
-  → take n made ≡ itemsOf policy rel (take n (getD rows i [])) → length (take (n - 0) made) ≡ n
-  → visit (rel .lines) (take (n - 0) made) (heldIn (length (take (n - 0) made)) m rows) ≡ visit (rel .lines) (itemsOf policy rel (getD (heldIn n m rows) i [])) (heldIn n m rows)
+    → take n made ≡ itemsOf policy rel (take n (getD rows i [])) → length (take (n - 0) made) ≡ n
+    → visit (rel .lines) (take (n - 0) made) (heldIn (length (take (n - 0) made)) m rows) ≡ visit (rel .lines) (itemsOf policy rel (getD (heldIn n m rows) i [])) (heldIn n m rows)
 turn policy rel n m i rows made h l e long =
     let z : n - 0 ≡ n = omega arith in
     ap (λ j. visit (rel .lines) (take (n - 0) made) (heldIn j m rows)) long
@@ -27,7 +27,7 @@ turn policy rel n m i rows made h l e long =
 
 -- too many kernels at a turn are too many in the end
 over : (policy : Policy) (rel : Relations) (n i : ℕ) (ks next all rows : List Items) (r : Option ℕ) → i < mostStates → i < length ks
-  → explore policy rel (mostStates - i) i ks ≡ all → next ≡ visit (rel .lines) (itemsOf policy rel (getD ks i [])) ks → mostStates < length next → r ≡ None → Found n all rows r
+    → explore policy rel (mostStates - i) i ks ≡ all → next ≡ visit (rel .lines) (itemsOf policy rel (getD ks i [])) ks → mostStates < length next → r ≡ None → Found n all rows r
 over policy rel n i ks next all rows r h l inv t many e =
     let later = explore policy rel (mostStates - (i + 1)) (i + 1) in
     let is : later next ≡ all = ap later t ∙ sym (explore-more policy rel i ks h l) ∙ inv in
@@ -56,7 +56,7 @@ returns-in-Break-count g c =
     let long : length (take (n - 0) made) ≡ n = simp length-take (omega (arith, full, c .pre .few)) in
     let t = turn policy rel n m i rows made (c .loop-i-test .taken) wide (c .expanded-items .ensures ∙ ap (itemsFrom policy rel) (c .closed .ensures)) long in
     over policy rel n i ks (visit (rel .lines) (take (n - 0) made) (heldIn (length (take (n - 0) made)) m rows)) (kernelsOf policy rel) _ (c .from-residual .result)
-      (omega (arith, c .loop-i .inv .0)) l (c .loop-i .inv .3) t (c .in-Break-count .ensures tt) (c .from-residual .ensures)
+    (omega (arith, c .loop-i .inv .0)) l (c .loop-i .inv .3) t (c .in-Break-count .ensures tt) (c .from-residual .ensures)
 
 pub loop-i-again : need.loop-i-again
 loop-i-again g c =
@@ -72,10 +72,13 @@ loop-i-again g c =
     let l : i < length ks = omega (arith, held-long n m rows wide) in
     let full : length made ≡ 101 = search needs in
     let long : length (take (n - 0) made) ≡ n = simp length-take (omega (arith, full, c .pre .few)) in
-    let t = turn policy rel n m i rows made (c .loop-i-test .taken) wide (c .expanded-items .ensures ∙ ap (itemsFrom policy rel) (c .closed .ensures)) long in
-    (c .in-Continue-count .ensures tt .1, omega (arith, c .loop-i .inv .0), search needs,
-     ap (explore policy rel (mostStates - (i + 1)) (i + 1)) (ap (λ j. heldIn j (c .in-Continue-count .count) (c .visit .last .kernels)) (sym long) ∙ c .in-Continue-count .ensures tt .0 ∙ t)
-     ∙ sym (explore-more policy rel i ks (omega (arith, c .loop-i .inv .0)) l) ∙ c .loop-i .inv .3)
+    let t = turn policy rel n m i rows made (c .loop-i-test .taken) wide (c .expanded-items .ensures ∙ ap (itemsFrom policy rel) (c .closed .ensures)) long in (
+      c .in-Continue-count .ensures tt .1,
+      omega (arith, c .loop-i .inv .0),
+      search needs,
+      ap (explore policy rel (mostStates - (i + 1)) (i + 1)) (ap (λ j. heldIn j (c .in-Continue-count .count) (c .visit .last .kernels)) (sym long) ∙ c .in-Continue-count .ensures tt .0 ∙ t)
+          ∙ sym (explore-more policy rel i ks (omega (arith, c .loop-i .inv .0)) l) ∙ c .loop-i .inv .3,
+    )
 
 pub returns : need.returns
 returns g c =

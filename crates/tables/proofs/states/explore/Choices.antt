@@ -11,7 +11,7 @@ abbrev pub Inv-loop-i : given.InvT-loop-i
 Inv-loop-i g l =
     (l .count ≤ mostStates) × (l .i ≤ mostStates) × (length (l .kernels) ≡ mostStates)
     × (explore (g .L·Lookahead .policy (l .look)) (relatedBy (l .sets) (productionsOf (l .rules))) (mostStates - l .i) (l .i) (heldIn (length (l .rules) + 1) (l .count) (l .kernels))
-       ≡ kernelsOf (g .L·Lookahead .policy (l .look)) (relatedBy (l .sets) (productionsOf (l .rules))))
+    ≡ kernelsOf (g .L·Lookahead .policy (l .look)) (relatedBy (l .sets) (productionsOf (l .rules))))
 
 abbrev pub μ-loop-i : given.MeasureT-loop-i
 μ-loop-i g l = mostStates - l .i

@@ -47,6 +47,7 @@ returns c =
     let fresh = c .args .fresh .now in
     let ks = heldIn n m rows in
     let at = looked (need.at·returns c .After-number-of-number) in
-    let l = held-long n m rows (omega (arith, c .pre .most, c .told-kernels)) in
-    (ap (map (take n)) (take-more-set rows m fresh (omega (arith, c .pre .most, c .told-kernels))) ∙ map-push (take n) (take m rows) fresh ∙ sym (kernel-new ks (take n fresh) (omega (arith, at, l))),
-     omega (arith, c .pre .most))
+    let l = held-long n m rows (omega (arith, c .pre .most, c .told-kernels)) in (
+      ap (map (take n)) (take-more-set rows m fresh (omega (arith, c .pre .most, c .told-kernels))) ∙ map-push (take n) (take m rows) fresh ∙ sym (kernel-new ks (take n fresh) (omega (arith, at, l))),
+      omega (arith, c .pre .most),
+    )

@@ -10,4 +10,4 @@ abbrev pub Inv-loop-x : given.InvT-loop-x
 Inv-loop-x l =
     (l .count ≤ mostStates)
     × (withNext (linesOf (l .rules)) (l .items) (l .set) (upFrom (l .x) (symbolCount - l .x)) (heldIn (length (l .items)) (l .count) (l .kernels))
-       ≡ withNext (linesOf (l .rules)) (l .items) (l .set) codes (heldIn (length (l .items)) (l .m) (l .entry .kernels)))
+    ≡ withNext (linesOf (l .rules)) (l .items) (l .set) codes (heldIn (length (l .items)) (l .m) (l .entry .kernels)))

@@ -12,7 +12,7 @@ pub returns-then-state-rows : need.returns-then-state-rows
 returns-then-state-rows c =
     let rows = c .rows-rows .result .now in
     ap (λ row. getD row (c .args .symbol) nothing)
-      (sym (getD-past (map actsOf rows) (c .args .state) [] (omega (arith, length-map rows actsOf))) ∙ ap (λ t. getD t (c .args .state) []) (c .rows-rows .ensures .value))
+    (sym (getD-past (map actsOf rows) (c .args .state) [] (omega (arith, length-map rows actsOf))) ∙ ap (λ t. getD t (c .args .state) []) (c .rows-rows .ensures .value))
 
 pub returns : need.returns
 returns c =

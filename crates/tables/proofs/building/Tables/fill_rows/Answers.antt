@@ -28,7 +28,7 @@ returns-in-Err g c =
     let s = c .loop-s .s in
     let wide : m ≤ length kernels = omega (arith, c .pre .most, c .told-kernels) in
     in-conflict all s (c .in-Err .x)
-      (sym (c .loop-s .inv .1) ∙ conflict-here all s (c .in-Err .x) (omega (arith, rows-long policy rel n m kernels wide)) (ap (conflictIn 0) (rows-at policy rel n m kernels wide s (c .loop-s-test .taken)) ∙ c .in-Err .ensures tt))
+    (sym (c .loop-s .inv .1) ∙ conflict-here all s (c .in-Err .x) (omega (arith, rows-long policy rel n m kernels wide)) (ap (conflictIn 0) (rows-at policy rel n m kernels wide s (c .loop-s-test .taken)) ∙ c .in-Err .ensures tt))
 
 pub loop-s-again : need.loop-s-again
 loop-s-again g c =
@@ -41,10 +41,11 @@ loop-s-again g c =
     let s = c .loop-s .s in
     let wide : m ≤ length kernels = omega (arith, c .pre .most, c .told-kernels) in
     let long = rows-long policy rel n m kernels wide in
-    let at = rows-at policy rel n m kernels wide s (c .loop-s-test .taken) in
-    (c .put .ensures
-     ∙ ap₂ (λ t w. t ++ w ∷ []) (c .loop-s .inv .0) (c .in-Ok .ensures tt .1 ∙ sym at) ∙ sym (take-more all s [] (omega (arith, long))),
-     sym (conflict-later all s (omega (arith, long)) (ap (conflictIn 0) at ∙ c .in-Ok .ensures tt .0)) ∙ c .loop-s .inv .1)
+    let at = rows-at policy rel n m kernels wide s (c .loop-s-test .taken) in (
+      c .put .ensures
+          ∙ ap₂ (λ t w. t ++ w ∷ []) (c .loop-s .inv .0) (c .in-Ok .ensures tt .1 ∙ sym at) ∙ sym (take-more all s [] (omega (arith, long))),
+      sym (conflict-later all s (omega (arith, long)) (ap (conflictIn 0) at ∙ c .in-Ok .ensures tt .0)) ∙ c .loop-s .inv .1,
+    )
 
 pub returns : need.returns
 returns g c =

@@ -13,4 +13,4 @@ abbrev pub Inv-loop-s : given.InvT-loop-s
 Inv-loop-s g l =
     (map actsOf (take (l .s) (l .self .rows)) ≡ take (l .s) (rowsOf (g .L·Lookahead .policy (l .look)) (relatedBy (l .sets) (productionsOf (l .rules))) (heldIn (length (l .rules) + 1) (l .m) (l .kernels))))
     × (conflictFrom (l .s) (drop (l .s) (rowsOf (g .L·Lookahead .policy (l .look)) (relatedBy (l .sets) (productionsOf (l .rules))) (heldIn (length (l .rules) + 1) (l .m) (l .kernels))))
-       ≡ conflictFrom 0 (rowsOf (g .L·Lookahead .policy (l .look)) (relatedBy (l .sets) (productionsOf (l .rules))) (heldIn (length (l .rules) + 1) (l .m) (l .kernels))))
+    ≡ conflictFrom 0 (rowsOf (g .L·Lookahead .policy (l .look)) (relatedBy (l .sets) (productionsOf (l .rules))) (heldIn (length (l .rules) + 1) (l .m) (l .kernels))))

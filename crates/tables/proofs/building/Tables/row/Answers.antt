@@ -23,6 +23,6 @@ returns c =
     let rows = c .rows-rows .result .now in
     let says = row-given (tableOf (c .args .self .now)) (c .args .state) (c .args .out .now) (omega arith) (omega (arith, c .rows-rows .ensures .len, c .if-state-rows .left)) in
     let row =
-      c .encode .ensures
-      ∙ ap (map wordOf) (sym (getD-map actsOf rows (c .args .state) (record { actions = [] }) [] (c .if-state-rows .left)) ∙ ap (λ t. getD t (c .args .state) []) (c .rows-rows .ensures .value)) in
+    c .encode .ensures
+    ∙ ap (map wordOf) (sym (getD-map actsOf rows (c .args .state) (record { actions = [] }) [] (c .if-state-rows .left)) ∙ ap (λ t. getD t (c .args .state) []) (c .rows-rows .ensures .value)) in
     record { answer = says; out = ap (λ w. w ++ drop 81 (c .args .out .now)) row ∙ row-leaves (tableOf (c .args .self .now)) (c .args .state) (c .args .out .now) _ says }
