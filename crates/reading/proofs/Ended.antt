@@ -23,7 +23,7 @@ use Rattle.reading.proofs.Live.{Live, live-start, live-move, live-few}
 use Rattle.reading.proofs.Outcome.{terminals-all}
 
 -- 2 while the end mark is not pending
-abbrev unmarked : List Spanned-symbol → ℕ
+abbrev pub unmarked : List Spanned-symbol → ℕ
 unmarked [] = 2
 unmarked (x ∷ xs) = cond (eqb (x .sym-code) 0) 0 (unmarked xs)
 
@@ -38,10 +38,10 @@ unmarked-less : (x : Spanned-symbol) (xs : List Spanned-symbol) → 1 ≤ x .sym
 unmarked-less x xs h = cond-both (eqb (x .sym-code) 0) 0 (unmarked xs) (λ m. unmarked xs ≤ m) (λ e. let z = eqb-true (x .sym-code) 0 e in absurd (omega arith)) (λ _. omega arith)
 
 -- what is left to be done, and the turns that are enough for it
-abbrev Enough : ℕ → List Spanned-symbol → List Token → ℕ → List Step-of-node → Type 0
+abbrev pub Enough : ℕ → List Spanned-symbol → List Token → ℕ → List Step-of-node → Type 0
 Enough k xs ws n out = length xs + 160 * (n + length ws) + 2 * length ws + unmarked xs + 1 ≤ k + 2 * length out
 
-abbrev Enough-at : ℕ → Turned → Type 0
+abbrev pub Enough-at : ℕ → Turned → Type 0
 Enough-at k (on ps xs ws n pl out) = Enough k xs ws n out
 Enough-at k (halt a) = Unit {0}
 
@@ -83,7 +83,7 @@ module _ (rules : List Production) (T : Faithful rules) (bounded : allBounded ru
       written : Enough k (x₀ ∷ x ∷ xs) ws n (out ++ (st ∷ []))
       written = let u = unmarked-more x₀ (x ∷ xs) in let l = length-append out (st ∷ []) in omega arith
 
-  less : (k : ℕ) (ps : List Stacked-symbol) (xs : List Spanned-symbol) (ws : List Token) (n pl : ℕ) (out : List Step-of-node) → Lv ps xs ws n pl out → Enough (suc k) xs ws n out → Enough-at k (turn ps xs ws n pl out)
+  pub less : (k : ℕ) (ps : List Stacked-symbol) (xs : List Spanned-symbol) (ws : List Token) (n pl : ℕ) (out : List Step-of-node) → Lv ps xs ws n pl out → Enough (suc k) xs ws n out → Enough-at k (turn ps xs ws n pl out)
   less k ps [] [] n pl out L h = less-end k ending ps n out h
   less k ps [] (w ∷ ws) n pl out L h = cond-both (ltb n 1000) _ _ (Enough-at k) (λ _. let u = unmarked-few (record { sym-code = w .symbol; first-word = n; word-count = 1 } ∷ []) in omega arith) (λ _. tt)
   less k ps (x ∷ xs) ws n pl out L h = less-act k (action-at (top-state start-state ps) (x .sym-code)) ps x xs ws n pl out h (shifted-some (x .sym-code) L)

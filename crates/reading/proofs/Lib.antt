@@ -23,3 +23,6 @@ pub mod Limits
 pub mod Ended
 pub mod Granted
 pub mod Built
+mod Downs
+mod Turning
+mod Running

@@ -47,3 +47,7 @@ Build-and-read =
     (rules : List Production) → allBounded rules ≡ true → (policy : Policy) → Lawful policy → (rows : List (List Act)) → buildSays policy rules ≡ granted rows
     → (s : Stream) (cap : ℕ) → allTerminals (s .tokens) ≡ true
     → (a : Read-answer) × (read-says rules 0 (next-in rows) (action-in rows) cap s ≡ Some a) × Kept rules (codes-of (s .tokens)) (s .ending) cap a
+
+-- the rows are those that some build granted for the rules, under a policy that keeps its law
+abbrev pub Belonging : List Production → List (List Act) → Type 0
+Belonging rules rows = ∥ ((policy : Policy) × Lawful policy × (buildSays policy rules ≡ granted rows)) ∥₁

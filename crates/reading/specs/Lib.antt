@@ -4,3 +4,5 @@ pub mod Reader
 pub mod Reading
 pub mod Promise
 pub mod Building
+pub mod Held
+pub mod Told

@@ -1,4 +1,9 @@
-// Reading: the reader's laws.
+// Reading: the reader, and its laws.
+pub mod outcomes;
+pub mod piles;
+pub mod runs;
+pub mod turns;
+
 ghost use Rattle.reading.specs.Reader.{Sound-reader, Complete-reader, Unambiguous};
 ghost use Rattle.reading.specs.Promise.{Reads-well, One-answer, Worked-out, Keeps-limits, Answers-always};
 ghost use Rattle.reading.specs.Building.{Rows-faithful, Granted-useful, Rows-read-well, Rows-answer, Build-and-read};

@@ -5,3 +5,4 @@ mod Finding
 mod Rowing
 mod Filling
 pub mod Says
+pub mod Looking

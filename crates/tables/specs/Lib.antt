@@ -1,3 +1,4 @@
 pub mod Kept
 pub mod Acts
 pub mod Built
+pub mod Looked

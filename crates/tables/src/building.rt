@@ -6,12 +6,13 @@ ghost use lib.ListN.{length, take, getD};
 ghost use Rattle.book.specs.Answers.{saidOf, said};
 ghost use Rattle.book.specs.Held.{productionsOf};
 ghost use Rattle.book.specs.Symbols.{mostRules};
-ghost use Rattle.grammar.specs.Build.{nothing, rowsOf, withoutConflict, builtBy, buildSays};
+ghost use Rattle.grammar.specs.Build.{rowsOf, withoutConflict, builtBy, buildSays};
 ghost use Rattle.grammar.specs.Relating.{relatedBy};
 ghost use Rattle.grammar.specs.States.{mostStates};
 ghost use Rattle.tables.specs.Acts.{actOf, actsOf};
 ghost use Rattle.tables.specs.Built.{tableOf, buildRefusal, fillSays, rowRefusal, rowSays, rowIn};
 ghost use Rattle.tables.specs.Kept.{heldIn};
+ghost use Rattle.tables.specs.Looked.{actIn};
 use crate::actions::Action;
 use crate::actions::Row;
 use crate::actions::row_of;
@@ -145,15 +146,16 @@ impl Tables {
         &self.rows[0..n]
     }
 
-    // The action of a state at a symbol; there is none past the last state or symbol.
+    // The action of a state at a symbol; there is none at what is no state or no symbol.
     pub fn action(&self, state: usize, symbol: u8) -> Action
-        ensures { λ r. ⌜ actOf r ≡ getD (getD (tableOf (now (self .entry))) state []) symbol nothing ⌝ }
+        ensures { λ r. ⌜ actOf r ≡ actIn (tableOf (now (self .entry))) state symbol ⌝ }
     {
         let rows = self.rows();
-        if state >= rows.len() {
+        let x = symbol as usize;
+        if state >= rows.len() || x >= SYMBOLS {
             return Action::None;
         }
-        rows[state].at(symbol)
+        rows[state].actions[x]
     }
 
     // Writes the row of a state as numbers at the start of a buffer, and answers how many they are.

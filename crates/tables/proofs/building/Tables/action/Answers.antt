@@ -1,21 +1,16 @@
-use mathlib.Core.List.{[], map}
-use mathlib.Core.Path.{_≡_, ap, sym, _∙_}
+use mathlib.Core.Logic.{inl, inr}
+use mathlib.Core.Path.{_∙_, ap}
 use native.Mathlib.Omega.{arith}
-use lib.ListN.{length, getD, length-map}
-use Rattle.std.proofs.shelf.Lists.{getD-past, getD-map}
-use Rattle.grammar.specs.Build.{nothing}
-use Rattle.tables.specs.Acts.{actsOf}
-use Rattle.tables.specs.Built.{tableOf}
+use Rattle.tables.specs.Looked.{actIn}
+use Rattle.tables.proofs.Looking.{look-none, look-some}
 use Rattle.tables.proofs.building.Tables.action.Needs as need
 
 pub returns-then-state-rows : need.returns-then-state-rows
 returns-then-state-rows c =
-    let rows = c .rows-rows .result .now in
-    ap (λ row. getD row (c .args .symbol) nothing)
-    (sym (getD-past (map actsOf rows) (c .args .state) [] (omega (arith, length-map rows actsOf))) ∙ ap (λ t. getD t (c .args .state) []) (c .rows-rows .ensures .value))
+    look-none (c .rows-rows .result .now) (c .args .state) (c .args .symbol) (elim (c .then-state-rows .either) [ inl h ↦ inl h | inr h ↦ inr (omega arith) ])
+    ∙ ap (λ t. actIn t (c .args .state) (c .args .symbol)) (c .rows-rows .ensures .value)
 
 pub returns : need.returns
 returns c =
-    let rows = c .rows-rows .result .now in
-    c .at .ensures
-    ∙ ap (λ row. getD row (c .args .symbol) nothing) (sym (getD-map actsOf rows (c .args .state) (record { actions = [] }) [] (c .if-state-rows .left)) ∙ ap (λ t. getD t (c .args .state) []) (c .rows-rows .ensures .value))
+    look-some (c .rows-rows .result .now) (c .args .state) (c .args .symbol) (omega arith)
+    ∙ ap (λ t. actIn t (c .args .state) (c .args .symbol)) (c .rows-rows .ensures .value)
