@@ -26,7 +26,8 @@ use Rattle.grammar.proofs.Corners.{left-corners-mean}
 use Rattle.grammar.proofs.Followers.{leftmost-in, leftmost-followers-mean}
 use Rattle.grammar.proofs.Expanding.{expansion-means}
 use Rattle.grammar.proofs.Moving.{next-means, start-holds}
-use Rattle.reading.specs.Tables.{Law-kept, Applying, Faithful, entry-of, target-of, action-in, next-in}
+use Rattle.tables.specs.Looked.{actIn}
+use Rattle.reading.specs.Tables.{Law-kept, Applying, Faithful, target-of, action-in, next-in}
 use Rattle.reading.specs.Building.{Rows-faithful}
 
 getD-past : {A : Type 0} (xs : List A) (i : ℕ) (d : A) → length xs ≤ i → getD xs i d ≡ d
@@ -126,7 +127,7 @@ module _ (rules : List Production) (a : allBounded rules ≡ true) (policy : Pol
     state-of s (looks c e h l) = closed-state s c
     state-of s (ends c e z) = closed-state s c
 
-    entry-in : (s x : ℕ) → x < symbolCount → entry-of rows s x ≡ getD (getD rows s []) x nothing
+    entry-in : (s x : ℕ) → x < symbolCount → actIn rows s x ≡ getD (getD rows s []) x nothing
     entry-in s x i = cond-true _ _ _ (lt-ltb x symbolCount i)
 
     abbrev Ap-at : ℕ → ℕ → Option Move → Type 0
@@ -157,7 +158,7 @@ module _ (rules : List Production) (a : allBounded rules ≡ true) (policy : Pol
     moves-at s x p r d =
         let (i, q) = applies-to rules a (Holds (kern s)) (looking s) p in
         let l : s < length rows = state-of s p in
-        let e : entry-of rows s x ≡ shift (next-in rows s x) = shift-of (entry-of rows s x) (sole-at s x shifts p) in
+        let e : actIn rows s x ≡ shift (next-in rows s x) = shift-of (actIn rows s x) (sole-at s x shifts p) in
         let g = goes s x (next-in rows s x) l i (sym (entry-in s x i) ∙ e) .1 in
         let (hs, hx) = expansion-means left-corners-mean leftmost-followers-mean rules a (looking s) (kern s) (shaped s (omega arith)) in
         let n = next-means rules a (itemsOf policy (relationsOf rules) (kern s)) hs x .1 r d in (

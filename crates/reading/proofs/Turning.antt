@@ -18,7 +18,8 @@ use Rattle.grammar.specs.Laws.{moveOf}
 use Rattle.grammar.specs.Meaning.{ruleOf, Move, reduces}
 use Rattle.reading.specs.declared.outcomes.Step.{Step}
 use Rattle.reading.specs.Trees.{Step-of-node}
-use Rattle.reading.specs.Tables.{entry-of, action-in, next-in}
+use Rattle.tables.specs.Looked.{actIn}
+use Rattle.reading.specs.Tables.{action-in, next-in}
 use Rattle.reading.specs.Reading.{Spanned-symbol, Stacked-symbol, Turned, on, halt, covered, top-state, acting, turn-from}
 use Rattle.reading.specs.Told.{stepOf, writtenIn, after-words}
 
@@ -79,5 +80,5 @@ module _ (rules : List Production) (rows : List (List Act)) (ending : Ending) (c
   abbrev acts : Option Move → Turned
   acts m = acting rules 0 (next-in rows) (action-in rows) ending cap m ps x xs ws n pl out
 
-  pub act-reduce : (r : ℕ) → reduce r ≡ entry-of rows (top-state 0 ps) (x .sym-code) → acts (Some (reduces r)) ≡ acts (action-in rows (top-state 0 ps) (x .sym-code))
+  pub act-reduce : (r : ℕ) → reduce r ≡ actIn rows (top-state 0 ps) (x .sym-code) → acts (Some (reduces r)) ≡ acts (action-in rows (top-state 0 ps) (x .sym-code))
   act-reduce r e = ap (λ a. acts (moveOf a)) e

@@ -13,6 +13,7 @@ use Rattle.grammar.specs.Sets.{symbolCount}
 use Rattle.grammar.specs.Meaning.{ruleOf, InBook, LeftmostFollower, ItemSet, after, Closed, Expanded, Next, Move, shifts, Applies}
 use Rattle.grammar.specs.Build.{Act, nothing, accept, shift, reduce, conflict}
 use Rattle.grammar.specs.Laws.{moveOf}
+use Rattle.tables.specs.Looked.{actIn}
 
 -- the set of items that a test has
 abbrev pub Passing : (ℕ → ℕ → Bool) → ItemSet
@@ -45,10 +46,6 @@ pub record Faithful (rules : List Production) : Type 0 where
 
 -- Tables as rows of actions, one for each state and symbol.
 
--- the entry of a state at a symbol; there is nothing at what is no symbol
-abbrev pub entry-of : List (List Act) → ℕ → ℕ → Act
-entry-of rows s x = cond (ltb x symbolCount) (getD (getD rows s []) x nothing) nothing
-
 -- the state that an action goes to
 abbrev pub target-of : Act → ℕ
 target-of nothing = 0
@@ -59,8 +56,8 @@ target-of conflict = 0
 
 -- the action of a state at a symbol
 abbrev pub action-in : List (List Act) → ℕ → ℕ → Option Move
-action-in rows s x = moveOf (entry-of rows s x)
+action-in rows s x = moveOf (actIn rows s x)
 
 -- the state that follows a shift
 abbrev pub next-in : List (List Act) → ℕ → ℕ → ℕ
-next-in rows s x = target-of (entry-of rows s x)
+next-in rows s x = target-of (actIn rows s x)

@@ -5,7 +5,8 @@ use Rattle.book.specs.Held.{productionsOf}
 use Rattle.grammar.specs.Build.{reduce}
 use Rattle.grammar.specs.Laws.{moveOf}
 use Rattle.tables.specs.Built.{tableOf}
-use Rattle.reading.specs.Tables.{entry-of, next-in, action-in}
+use Rattle.tables.specs.Looked.{actIn}
+use Rattle.reading.specs.Tables.{next-in, action-in}
 use Rattle.reading.specs.Reading.{top-state}
 use Rattle.reading.specs.Held.{symbolOf, stackOf, pendingOf}
 use Rattle.reading.specs.Told.{writtenIn}
@@ -16,7 +17,7 @@ pub reduce-requires : need.reduce-requires
 reduce-requires c κs =
     let rows = tableOf (c .args .tables .now) in
     let ps = stackOf (c .args .stacks .now) in
-    let e : reduce (c .in-Reduce .rule) ≡ entry-of rows (top-state 0 ps) (c .args .symbol .code) = c .in-Reduce .ensures tt ∙ ap (λ s. entry-of rows s (c .args .symbol .code)) (c .state .ensures) in
+    let e : reduce (c .in-Reduce .rule) ≡ actIn rows (top-state 0 ps) (c .args .symbol .code) = c .in-Reduce .ensures tt ∙ ap (λ s. actIn rows s (c .args .symbol .code)) (c .state .ensures) in
     let some = c .pre .ready .stacked-some (c .args .symbol .code) (c .in-Reduce .rule) (ap moveOf (sym e)) in
     record { sized = c .pre .sized; room = omega (arith, some, c .pre .ready .held); under = c .pre .ready .under; within = c .pre .within }
 
@@ -26,7 +27,7 @@ returns-in-Reduce c =
     let st = c .args .stacks .now in
     let p = c .args .progress .now in
     let steps = c .args .steps .now in
-    let e : reduce (c .in-Reduce .rule) ≡ entry-of rows (top-state 0 (stackOf st)) (c .args .symbol .code) = c .in-Reduce .ensures tt ∙ ap (λ s. entry-of rows s (c .args .symbol .code)) (c .state .ensures) in
+    let e : reduce (c .in-Reduce .rule) ≡ actIn rows (top-state 0 (stackOf st)) (c .args .symbol .code) = c .in-Reduce .ensures tt ∙ ap (λ s. actIn rows s (c .args .symbol .code)) (c .state .ensures) in
     record {
       moved = λ ending ws.
           c .reduce .ensures .moved (next-in rows) (action-in rows) ending ws
