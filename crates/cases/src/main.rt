@@ -26,7 +26,10 @@ fn outcome<L: Lookahead>(heap: Global, book: &Book, look: &L) -> Result<String, 
         Err(BuildError::Rules) => format!(heap, "refused 1"),
         Err(BuildError::Useless(code)) => format!(heap, "refused 7, code {code}"),
         Err(BuildError::States) => format!(heap, "refused 8"),
-        Err(BuildError::Conflict(state, symbol)) => format!(heap, "refused 9, state {state}, symbol {symbol}"),
+        Err(BuildError::Conflict(state, symbol)) => format!(
+            heap,
+            "refused 9, state {state}, symbol {symbol}"
+        ),
     }
 }
 
@@ -39,7 +42,13 @@ fn show(rt: &LibcRuntime, name: &str, file: &[u8]) -> io::Result<()> {
     }
     let slr = outcome(heap, &book, &Slr)?;
     let leftmost = outcome(heap, &book, &LeftmostFollow)?;
-    let eased = outcome(heap, &book, &SlrIfAdequate { below: LeftmostFollow })?;
+    let eased = outcome(
+        heap,
+        &book,
+        &SlrIfAdequate {
+            below: LeftmostFollow,
+        },
+    )?;
     rt.println(format!(heap, "{name}: SLR {slr}; leftmost {leftmost}; LSLR {eased}")?)
 }
 
@@ -55,7 +64,11 @@ fn main(rt: LibcRuntime) -> io::Result<()> {
     show(&rt, "nested and counted", books::nested())?;
     show(&rt, "pairs, even or odd", books::pairs())?;
     show(&rt, "one for one, or two for one", books::counted())?;
-    show(&rt, "one for one, or two for one, and more behind", books::counted_more())?;
+    show(
+        &rt,
+        "one for one, or two for one, and more behind",
+        books::counted_more(),
+    )?;
     show(&rt, "a conflict under each policy", books::everywhere())?;
     show(&rt, "a plain list", books::plain())?;
     show(&rt, "a list settled by its end", books::by_its_end())

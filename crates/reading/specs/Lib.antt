@@ -6,3 +6,4 @@ pub mod Promise
 pub mod Building
 pub mod Held
 pub mod Told
+pub mod Cases

@@ -4,6 +4,7 @@ pub mod piles;
 pub mod runs;
 pub mod turns;
 
+ghost use Rattle.reading.specs.Cases.{Cases-hold};
 ghost use Rattle.reading.specs.Reader.{Sound-reader, Complete-reader, Unambiguous};
 ghost use Rattle.reading.specs.Promise.{Reads-well, One-answer, Worked-out, Keeps-limits, Answers-always};
 ghost use Rattle.reading.specs.Building.{Rows-faithful, Granted-useful, Rows-read-well, Rows-answer, Build-and-read};
@@ -35,6 +36,13 @@ pub fn building_laws_stand() -> u8
     ensures { λ _. ⌜ Rows-read-well ⌝ }
     ensures { λ _. ⌜ Rows-answer ⌝ }
     ensures { λ _. ⌜ Build-and-read ⌝ }
+{
+    0
+}
+
+// That the definitions yield every worked case.
+pub fn cases_stand() -> u8
+    ensures { λ _. ⌜ Cases-hold ⌝ }
 {
     0
 }

@@ -80,7 +80,12 @@ fn as_many_states_as_there_may_be() -> Result<(), Fail> {
         book.enter(41, &[k, k, k, k, k, k])?;
     }
     let mut tables = Tables::new();
-    tables.fill(book.rules(), &SlrIfAdequate { below: LeftmostFollow })?;
+    tables.fill(
+        book.rules(),
+        &SlrIfAdequate {
+            below: LeftmostFollow,
+        },
+    )?;
     check_eq(tables.rows().len(), 200)?;
     book.enter(41, &[34])?;
     check_eq(tables.fill(book.rules(), &Slr), Err(BuildError::States))
