@@ -41,7 +41,7 @@ pub(crate) fn sides_at(heap: Global, book: &Book, number: usize) -> Result<Strin
 }
 
 // A line for each rule of a book.
-pub fn listing(heap: Global, book: &Book) -> Result<String, AllocError>
+pub(crate) fn listing(heap: Global, book: &Book) -> Result<String, AllocError>
     ensures { λ r. ⌜ made r (λ s. string-bytes s ≡ listText 1 (rulesOf (now (book .entry)))) ⌝ }
 {
     let rules = book.rules();
