@@ -1,6 +1,6 @@
 // Book files of the cases: for each rule the number of right symbols, the left code and the right codes; then 7 and the number of rules.
 
-pub fn left_lists() -> &'static [u8] {
+pub(crate) fn left_lists() -> &'static [u8] {
     &[
         2,
         41,
@@ -35,7 +35,7 @@ pub fn left_lists() -> &'static [u8] {
     ]
 }
 
-pub fn right_lists() -> &'static [u8] {
+pub(crate) fn right_lists() -> &'static [u8] {
     &[
         2,
         41,
@@ -70,7 +70,7 @@ pub fn right_lists() -> &'static [u8] {
     ]
 }
 
-pub fn waiting() -> &'static [u8] {
+pub(crate) fn waiting() -> &'static [u8] {
     &[
         3,
         41,
@@ -115,7 +115,7 @@ pub fn waiting() -> &'static [u8] {
     ]
 }
 
-pub fn too_late() -> &'static [u8] {
+pub(crate) fn too_late() -> &'static [u8] {
     &[
         4,
         41,
@@ -162,7 +162,7 @@ pub fn too_late() -> &'static [u8] {
     ]
 }
 
-pub fn nested() -> &'static [u8] {
+pub(crate) fn nested() -> &'static [u8] {
     &[
         2,
         41,
@@ -200,7 +200,7 @@ pub fn nested() -> &'static [u8] {
     ]
 }
 
-pub fn pairs() -> &'static [u8] {
+pub(crate) fn pairs() -> &'static [u8] {
     &[
         1,
         41,
@@ -235,7 +235,7 @@ pub fn pairs() -> &'static [u8] {
     ]
 }
 
-pub fn counted() -> &'static [u8] {
+pub(crate) fn counted() -> &'static [u8] {
     &[
         2,
         41,
@@ -276,7 +276,7 @@ pub fn counted() -> &'static [u8] {
     ]
 }
 
-pub fn counted_more() -> &'static [u8] {
+pub(crate) fn counted_more() -> &'static [u8] {
     &[
         2,
         41,
@@ -337,7 +337,7 @@ pub fn counted_more() -> &'static [u8] {
     ]
 }
 
-pub fn everywhere() -> &'static [u8] {
+pub(crate) fn everywhere() -> &'static [u8] {
     &[
         4,
         41,
@@ -378,7 +378,7 @@ pub fn everywhere() -> &'static [u8] {
     ]
 }
 
-pub fn plain() -> &'static [u8] {
+pub(crate) fn plain() -> &'static [u8] {
     &[
         5,
         41,
@@ -406,7 +406,7 @@ pub fn plain() -> &'static [u8] {
     ]
 }
 
-pub fn by_its_end() -> &'static [u8] {
+pub(crate) fn by_its_end() -> &'static [u8] {
     &[
         4,
         41,
