@@ -1,9 +1,8 @@
 -- Filled tables belong to the rules, and a build leaves what it should.
 use mathlib.Core.Bool.{Bool, true, false, _&&_}
 use mathlib.Core.List.{List, []}
-use mathlib.Core.Path.{_≡_, refl, sym, ap, _∙_}
-use Prim.Native.Nat.{ℕ}
-use lib.Dec.{leb, ltb}
+use mathlib.Core.Path.{_≡_, sym, ap, _∙_}
+use lib.Dec.{leb}
 use lib.ListN.{length}
 use Rattle.std.specs.declared.result.Result.{Result}
 use Rattle.std.specs.declared.result.Result.the-variants.{Ok, Err}
@@ -21,7 +20,7 @@ use Rattle.tables.specs.declared.building.Tables.{Tables}
 use Rattle.tables.specs.declared.building.BuildError.{BuildError}
 use Rattle.tables.specs.Built.{tableOf, buildRefusal, fillSays}
 use Rattle.card.specs.Belongs.{Belongs}
-use Rattle.card.specs.Models.{Model, standing, unbuilt, builtWith}
+use Rattle.card.specs.Models.{standing, unbuilt, builtWith}
 
 -- a book's rules are never too many
 pub fills : (policy : Policy) (rules : List Production) → isWellFormed rules ≡ true → fillSays policy rules ≡ buildSays policy rules

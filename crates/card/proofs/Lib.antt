@@ -1,3 +1,4 @@
 pub mod Marks
 pub mod Filling
 pub mod Serving
+pub mod Stands

@@ -2,8 +2,6 @@
 use mathlib.Core.Bool.{Bool, true, false, _&&_}
 use mathlib.Core.List.{List}
 use mathlib.Core.Path.{_≡_, refl, sym, ap, subst, _∙_}
-use Prim.Native.Nat.{ℕ}
-use native.Mathlib.Omega.{arith}
 use Rattle.std.specs.declared.result.Result.{Result}
 use Rattle.std.specs.declared.result.Result.the-variants.{Ok, Err}
 use Rattle.std.specs.Results.{isErr}
@@ -16,7 +14,7 @@ use Rattle.book.specs.Rules.{Production}
 use Rattle.grammar.specs.Build.{Act}
 use Rattle.tables.specs.declared.building.Tables.{Tables}
 use Rattle.card.specs.Belongs.{Belongs}
-use Rattle.card.specs.Models.{Model, standing, unbuilt}
+use Rattle.card.specs.Models.{standing, unbuilt}
 
 pub mark-belongs : {A E : Type 0} (r : Result A E) (mark v : Bool) → v ≡ isErr r → (b after : Book) (t : Tables) → refused r (λ _. after ≡ b) → Belongs mark b t → Belongs (mark && v) after t
 mark-belongs (Ok x) mark v e b after t same h = λ both. absurd (false≢true (sym e ∙ and-parts mark v both .1))

@@ -19,7 +19,7 @@ ghost use Rattle.reading.specs.Building.{Belonging};
 ghost use Rattle.reading.specs.Told.{answerOf, after-words};
 ghost use Rattle.card.specs.Models.{fresh};
 ghost use Rattle.card.specs.Cards.{modelOf};
-ghost use Rattle.card.specs.Histories.{calls-load, calls-enter, calls-strike, calls-build, calls-read, stepOf, Serves, Promised};
+ghost use Rattle.card.specs.Histories.{calls-load, calls-enter, calls-strike, calls-build, calls-read, stepOf, Serves, Promised, Stood};
 ghost use Rattle.card.specs.Wanting.{cardRowRefusal, rowOf, rowInto, toldBy, stepsBy, wordsBy, readOn, KeptOn};
 use super::Card;
 use crate::refusals::CardRowError;
@@ -168,6 +168,7 @@ impl Card {
         ensures model { λ _. ⌜ modelOf (now (self .exit)) ≡ modelOf (now (self .entry)) ⌝ }
         ensures service { λ _. ⌜ Serves (calls-read (S·Source .means (now (source .entry))) (length (now (list .entry)))) (modelOf (now (self .entry))) (modelOf (now (self .exit))) ⌝ }
         ensures promise { λ r. ⌜ Promised (modelOf (now (self .entry))) (length (now (list .entry))) (S·Source .means (now (source .entry))) (toldBy r (now (list .exit))) ⌝ }
+        ensures stood { λ _. ⌜ Stood (modelOf (now (self .entry))) ⌝ }
     {
         if !self.built {
             return Err(ReadError::NotBuilt);
