@@ -33,7 +33,12 @@ pub struct Saved {
 }
 
 // Loads a file into the book; a refused load changes nothing.
-pub(crate) fn load(heap: Global, book: &mut Book, name: &str, bytes: &[u8]) -> Result<Loaded, AllocError>
+pub(crate) fn load(
+    heap: Global,
+    book: &mut Book,
+    name: &str,
+    bytes: &[u8],
+) -> Result<Loaded, AllocError>
     ensures rules { λ r. ⌜ made r (λ _. rulesOf (now (book .exit)) ≡ loaded (rulesOf (now (book .entry))) (now (bytes .entry))) ⌝ }
     ensures ok { λ r. ⌜ made r (λ t. t .ok ≡ isGranted (loadSays (now (bytes .entry)))) ⌝ }
     ensures line { λ r. ⌜ made r (λ t. LoadTold (now (name .entry)) (now (bytes .entry)) (length (rulesOf (now (book .exit)))) (string-bytes (t .line))) ⌝ }
