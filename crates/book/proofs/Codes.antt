@@ -1,8 +1,8 @@
 -- Rules within their bounds: the first bad code, and what a granted rule is.
-use Rattle.std.proofs.Common.{◌≡◌, ℕ, zero, suc, ◌<◌, ◌≤◌, Bool, true, false, cond, not, ◌&&◌, List, [], ◌∷◌, ◌++◌, length, get_or, take, Some, None, Option, sym, refl, ap, ◌∙◌, arith}
+use Rattle.std.proofs.Common.{◌≡◌, ℕ, zero, suc, ◌<◌, ◌≤◌, Bool, true, false, cond, not, ◌&&◌, List, [], ◌∷◌, ◌++◌, length, get_or, take, Some, None, Option, refl, ap, ◌∙◌, arith}
 use Rattle.std.proofs.lemmas.Bool.{and_parts, and_from, le-leb}
 use Rattle.std.specs.Option.{option_map}
-use Rattle.book.specs.Answers.{granted, refused, no, refuse_if}
+use Rattle.book.specs.Answers.{granted, no, refuse_if}
 use Rattle.book.specs.Symbols.{is_symbol, is_nonterminal, within, longest_right}
 use Rattle.book.specs.Rules.{Production, first_bad, all_symbols, is_bounded, rule_says, codes_say}
 

@@ -1,10 +1,10 @@
 -- The test of the rules that a book can have is true of just those.
-use Rattle.std.proofs.Common.{◌≡◌, ℕ, zero, suc, ◌+◌, ◌<◌, ◌≤◌, Bool, true, false, not, ◌&&◌, ◌||◌, eqb, leb, List, [], ◌∷◌, ◌++◌, length, get_or, sym, refl, ap, ◌∙◌, subst, ap₂, inl, inr, arith}
+use Rattle.std.proofs.Common.{◌≡◌, ℕ, zero, suc, ◌<◌, ◌≤◌, Bool, true, false, not, ◌&&◌, eqb, leb, List, [], ◌∷◌, length, get_or, sym, refl, subst, ap₂, inl, inr, arith}
 use Rattle.std.proofs.lemmas.Slice.Eq.{bytes_eq-Decides}
 use Rattle.std.proofs.lemmas.Bool.{and_parts, and_from, or_left, or_right, or_cases, both_ways, not-true, not_from_false, leb-true, le-leb, eqb-true, eq-eqb}
 use Rattle.std.specs.Str.{bytes_eq}
-use Rattle.book.specs.Symbols.{first_nonterminal, last_symbol, longest_right, most_rules, within, is_nonterminal, is_symbol}
-use Rattle.book.specs.Rules.{Production, ◌⟶◌, Bounded, rule_in, WellFormed, all_symbols, is_bounded, all_bounded, distinct, is_well_formed, same_rule, holds, TestIsExact}
+use Rattle.book.specs.Symbols.{first_nonterminal, last_symbol, longest_right, within, is_nonterminal, is_symbol}
+use Rattle.book.specs.Rules.{Production, ◌⟶◌, Bounded, rule_in, all_symbols, is_bounded, all_bounded, distinct, same_rule, holds, TestIsExact}
 use Rattle.book.proofs.Admission.{few, bounded, apart, well_formed}
 
 within_parts : (low high x : ℕ) → within low high x ≡ true → (low ≤ x) × (x ≤ high)

@@ -1,8 +1,8 @@
 -- One record of a load, and one turn of the whole.
-use Rattle.std.proofs.Common.{◌≡◌, ℕ, zero, suc, ◌+◌, ◌-◌, ◌<◌, ◌≤◌, Bool, true, false, cond, not, eqb, ltb, List, [], ◌∷◌, ◌++◌, length, get_or, take, drop, Some, None, Option, sym, refl, ap, ◌∙◌, ap₂, arith, length-take}
+use Rattle.std.proofs.Common.{◌≡◌, ℕ, zero, suc, ◌+◌, ◌-◌, ◌<◌, ◌≤◌, Bool, true, false, cond, not, ltb, List, [], ◌∷◌, ◌++◌, length, get_or, take, drop, Some, None, Option, sym, refl, ap, ◌∙◌, arith}
 use Rattle.std.proofs.lemmas.Bool.{ne_eqb, le-leb, and_from, ltb-false}
 use Rattle.std.specs.Option.{option_map}
-use Rattle.book.specs.Answers.{Answer, granted, refused, Refusal, no, refuse_if, and_then, leaves}
+use Rattle.book.specs.Answers.{Answer, granted, refused, no, refuse_if, and_then, leaves}
 use Rattle.book.specs.Symbols.{within, longest_right}
 use Rattle.book.specs.Rules.{Production, ◌⟶◌, enter_says}
 use Rattle.book.specs.Files.{front_says, rule_at, body_says, closing_says, closing_kind, record_says, record_leaves, width, load_from}

@@ -1,13 +1,13 @@
 -- A saved book loads as the same rules, and a file that loads is the one that save writes.
-use Rattle.std.proofs.Common.{◌≡◌, ℕ, zero, suc, ◌+◌, ◌-◌, ◌<◌, ◌≤◌, Bool, true, false, cond, not, ◌&&◌, eqb, ltb, leb, List, [], ◌∷◌, ◌++◌, length, get_or, take, drop, Some, None, Option, sym, refl, ap, ◌∙◌, subst, ap₂, arith, length-append}
+use Rattle.std.proofs.Common.{◌≡◌, ℕ, zero, suc, ◌+◌, ◌-◌, ◌≤◌, Bool, true, false, cond, not, eqb, ltb, leb, List, [], ◌∷◌, ◌++◌, length, take, drop, Some, None, Option, sym, refl, ap, ◌∙◌, subst, ap₂, arith, length-append}
 use Rattle.std.proofs.lemmas.List.{append-nil, append_assoc, take_at, drop_at, length-take-le, take-append-drop}
 use Rattle.std.proofs.lemmas.Bool.{and_parts, leb-true, eqb-true, eq-eqb, le-ltb, ltb-false}
 use Rattle.std.specs.Option.{option_map}
 use Rattle.std.specs.List.{flat_map}
 use Rattle.book.specs.Answers.{Answer, Refusal, granted, refused, no, refuse_if, and_then, leaves}
 use Rattle.book.specs.Symbols.{within, longest_right, is_nonterminal}
-use Rattle.book.specs.Rules.{Production, ◌⟶◌, is_bounded, all_symbols, is_well_formed, enter_says}
-use Rattle.book.specs.Files.{record_of, file_of, closing_kind, front_says, rule_at, body_says, end_says, closing_says, record_says, record_leaves, width, load_from, load_says}
+use Rattle.book.specs.Rules.{Production, ◌⟶◌, all_symbols, is_well_formed, enter_says}
+use Rattle.book.specs.Files.{record_of, file_of, closing_kind, front_says, rule_at, body_says, end_says, closing_says, record_says, width, load_from, load_says}
 use Rattle.book.proofs.Admission.{done, enter_granted, enters_in_turn, push_well_formed}
 use Rattle.book.proofs.Loads.{rule_record, onward, turn}
 use Rattle.book.proofs.Records.{joined_append}

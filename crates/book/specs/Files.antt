@@ -1,7 +1,7 @@
 -- Book files: the bytes that stand for a list of rules, and what loading any bytes gives.
-use Rattle.std.specs.Prelude.{◌≡◌, ℕ, zero, suc, ◌+◌, ◌-◌, Bool, true, cond, not, List, [], ◌∷◌, ◌++◌, length, take, drop, Some, None, Option, ◌==◌, nat_lt}
+use Rattle.std.specs.Prelude.{◌≡◌, ℕ, zero, suc, ◌+◌, ◌-◌, true, cond, not, List, [], ◌∷◌, ◌++◌, length, take, drop, Some, None, Option, ◌==◌, nat_lt}
 use Rattle.std.specs.List.{flat_map}
-use Rattle.book.specs.Answers.{Answer, granted, refused, Refusal, no, refuse_if, and_then, leaves}
+use Rattle.book.specs.Answers.{Answer, granted, refused, no, refuse_if, and_then, leaves}
 use Rattle.book.specs.Symbols.{longest_right, within}
 use Rattle.book.specs.Rules.{Production, ◌⟶◌, enter_says, is_well_formed}
 

@@ -1,5 +1,5 @@
 -- Each refusal of the book's calls: its number, and the values that it names.
-use Rattle.std.specs.Prelude.{ℕ, List, [], ◌∷◌}
+use Rattle.std.specs.Prelude.{ℕ, [], ◌∷◌}
 use Rattle.book.specs.Answers.{Refusal, no}
 use Rattle.book.specs.declared.rules.EnterError.{EnterError}
 use Rattle.book.specs.declared.rules.EnterError.TheVariants as enter

@@ -1,4 +1,6 @@
 // The rule book of a translator card: rules, the book that holds them, its file.
+#![tactic(auto)]
+
 pub mod books;
 pub mod files;
 pub mod rules;

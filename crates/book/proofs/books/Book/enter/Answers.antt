@@ -6,7 +6,7 @@ use Rattle.book.proofs.books.Book.enter.Goals as goal
 
 pub returns : goal.returns
 returns c =
-    let rules = rules_of c.args.self.now in
+    let held = rules_of c.args.self.now in
     let p = c.args.left ⟶ c.args.right.now in
-    let after : rules_of c.push.new.self ≡ entered rules p = search rules in
-    record { answer = search rules; rules = after; kept = λ w. ap is_well_formed after ∙ entered_well_formed rules p w; same = tt }
+    let after : rules_of c.push.new.self ≡ entered held p = search rules in
+    record { answer = search rules; rules = after; kept = λ w. ap is_well_formed after ∙ entered_well_formed held p w; same = tt }

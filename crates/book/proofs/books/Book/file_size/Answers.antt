@@ -1,6 +1,6 @@
-use Rattle.std.proofs.Common.{◌≡◌, length, take, sym, ap, ◌∙◌, arith, take_all}
+use Rattle.std.proofs.Common.{◌≡◌, length, take, ap, ◌∙◌, arith, take_all}
 use Rattle.std.specs.List.{flat_map}
-use Rattle.book.specs.Files.{record_of, file_of}
+use Rattle.book.specs.Files.{record_of}
 use Rattle.book.specs.Held.{rules_of}
 use Rattle.book.proofs.Records.{records_of, length_records_more, length_file}
 use Rattle.book.proofs.books.Book.file_size.Goals as goal

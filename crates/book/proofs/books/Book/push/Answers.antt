@@ -1,4 +1,4 @@
-use Rattle.std.proofs.Common.{◌<◌, [], ◌∷◌, map, length, take, ap, ◌∙◌, rules}
+use Rattle.std.proofs.Common.{◌<◌, length, take, ap, ◌∙◌, rules}
 use Rattle.std.proofs.lemmas.List.{take_more_set, map_push}
 use Rattle.book.specs.Held.{production_of, productions_of}
 use Rattle.book.proofs.books.Book.push.Goals as goal

@@ -2,7 +2,7 @@ use Rattle.std.proofs.Common.{◌≡◌, ◌+◌, ◌≤◌, [], ◌∷◌, ◌+
 use Rattle.std.proofs.lemmas.List.{take-append-drop}
 use Rattle.std.proofs.lemmas.Bool.Decides.{nat_tests}
 use Rattle.std.specs.List.{flat_map}
-use Rattle.book.specs.Answers.{Answer, granted, leaves}
+use Rattle.book.specs.Answers.{granted, leaves}
 use Rattle.book.specs.Files.{record_of, file_of, save_says, load_says}
 use Rattle.book.specs.Held.{production_of, rules_of}
 use Rattle.book.proofs.Records.{records_of, records_more, length_records_more, records_within, length_file, back_on}
@@ -16,25 +16,25 @@ all_records c = ap (flat_map record_of) c.rules-rules.ensures.value
 
 -- the records and the closing record find room
 room : (c : After-rules-rules) → length (records_of c.rules-rules.result.now) + 2 ≤ length c.args.out.now
-room c = omega (arith, ap length (all_records c), length_file (rules_of c.args.self.now), c.if-out-file-size.false, c.file-size.ensures)
+room c = omega (arith, ap length (all_records c), length_file (rules_of c.args.self.now), c.if-out-file_size.false, c.file_size.ensures)
 
-pub put-record-at-requires : goal.put-record-at-requires
-put-record-at-requires c =
+pub put_record-at-requires : goal.put_record-at-requires
+put_record-at-requires c =
     let rs = c.rules-rules.result.now in
     let i = c.loop-rule.rule-index in
-    omega (arith, room (goal.at.put-record-at-requires c).After-rules-rules, records_within rs (i + 1), length_records_more rs i c.rule-item.result c.loop-rule-test.true c.rule-item.is, c.loop-rule.invariant.0, c.loop-rule.invariant.1)
+    omega (arith, room (goal.at.put_record-at-requires c).After-rules-rules, records_within rs (i + 1), length_records_more rs i c.rule-item.result c.loop-rule-test.true c.rule-item.is, c.loop-rule.invariant.0, c.loop-rule.invariant.1)
 
 pub loop-rule-preserved : goal.loop-rule-preserved
 loop-rule-preserved c =
     let rs = c.rules-rules.result.now in
     let i = c.loop-rule.rule-index in
-    let put = c.put-record-at.ensures in
+    let put = c.put_record-at.ensures in
     let more = records_more rs i c.rule-item.result c.loop-rule-test.true c.rule-item.is in
     let front = put.front ∙ ap (λ t. t ++ record_of (production_of c.rule-item.result)) c.loop-rule.invariant.2 ∙ sym more in (
-      omega (arith, c.put-record-at.auto.out, c.loop-rule.invariant.0),
+      omega (arith, c.put_record-at.auto.out, c.loop-rule.invariant.0),
       omega (arith, put.next, c.loop-rule.invariant.1, length_records_more rs i c.rule-item.result c.loop-rule-test.true c.rule-item.is),
       front,
-      put.back ∙ back_on _ _ c.loop-rule.at c.put-record-at.result (omega (arith, put.next)) c.loop-rule.invariant.3,
+      put.back ∙ back_on _ _ c.loop-rule.at c.put_record-at.result (omega (arith, put.next)) c.loop-rule.invariant.3,
     )
 
 pub put-requires : goal.put-requires
@@ -56,7 +56,7 @@ returns c =
     c.put.ensures.front ∙ ap₂ (λ t n. t ++ 7 ∷ n ∷ []) (c.loop-rule.invariant.2 ∙ all) c.rules-rules.ensures.len in
     let back : drop end written ≡ drop end out =
     c.put.ensures.back ∙ back_on _ _ c.loop-rule.at end (omega (arith, c.put.ensures.next)) c.loop-rule.invariant.3 in
-    let fits : length (file_of rules) ≤ length out = omega (arith, c.if-out-file-size.false, c.file-size.ensures) in
+    let fits : length (file_of rules) ≤ length out = omega (arith, c.if-out-file_size.false, c.file_size.ensures) in
     let grants : granted end ≡ save_says rules (length out) = ap granted size ∙ grind (arith, nat_tests, fits) in
     record {
       answer = grants;

@@ -1,6 +1,6 @@
-use Rattle.std.proofs.Common.{◌≡◌, ◌-◌, ◌≤◌, ◌++◌, length, take, drop, sym, ap, ◌∙◌, arith, rules}
+use Rattle.std.proofs.Common.{◌≡◌, ◌-◌, ◌≤◌, ◌++◌, length, take, drop, ap, ◌∙◌, arith, rules}
 use Rattle.std.proofs.lemmas.Bool.Decides.{nat_tests}
-use Rattle.book.specs.Answers.{Answer, granted, leaves}
+use Rattle.book.specs.Answers.{granted, leaves}
 use Rattle.book.specs.Held.{production_of, productions_of, rules_of}
 use Rattle.book.specs.Rules.{is_well_formed, strike_says, struck}
 use Rattle.book.proofs.Admission.{struck_well_formed}
@@ -18,7 +18,7 @@ returns c =
     ap (λ rs. take (length rs) book.rules) c.rules-n.ensures.list ∙ take_own book.rules book.count.rules in
     let grants : granted tt ≡ strike_says (rules_of book) k = grind (arith, nat_tests, c.rules-n.ensures.len) in
     let after : _ ≡ struck (rules_of book) k =
-    ap productions_of (struck_out book.rules k n _ c.if-number-lt1.false c.if-number-n.false long c.rotate-left.ensures.after)
+    ap productions_of (struck_out book.rules k n _ c.if-number-lt1.false c.if-number-n.false long c.rotate_left.ensures.after)
     ∙ ap (λ rs. productions_of (take (k - 1) rs ++ drop k rs)) front
     ∙ map_without production_of (take book.count.rules book.rules) (k - 1) k
     ∙ ap (λ a. leaves a (λ _. take (k - 1) (rules_of book) ++ drop k (rules_of book)) (rules_of book)) grants in
