@@ -4,7 +4,7 @@ use Rattle.std.proofs.lemmas.List.{at_drop_more, at_drop_all, drop-drop}
 use Rattle.std.proofs.lemmas.Bool.{eq-eqb, le-ltb}
 use Rattle.book.specs.Answers.{granted, no, refuse_if}
 use Rattle.book.specs.Symbols.{is_terminal}
-use Rattle.source.specs.Streams.{Token, Ending, Stream, Drawn, word, closed, clean, fault, ends, before, first_of, drawn, remaining}
+use Rattle.source.specs.Streams.{Token, Ending, Stream, word, closed, clean, fault, ends, before, first_of, drawn, remaining}
 use Rattle.source.specs.Texts.{text_from, text_says, most_bytes, table_size}
 use Rattle.source.specs.Tapes.{tape_from, other_kind, word_kind}
 use Rattle.source.specs.States.{tape_means, head_of}

@@ -1,9 +1,8 @@
 -- The law of every source, for each: all its words are terminals.
-use Rattle.std.specs.Prelude.{◌≡◌, ℕ, ◌+◌, Bool, true, false, cond, ◌&&◌, List, [], ◌∷◌, drop, ◌==◌, slice_index, refl}
-use Rattle.std.proofs.Common.{sym, ap, ◌∙◌}
+use Rattle.std.specs.Prelude.{◌≡◌, ℕ, ◌+◌, Bool, true, false, cond, List, [], ◌∷◌, drop, ◌==◌, slice_index, refl}
 use Rattle.std.proofs.lemmas.Bool.{and_parts, and_from}
 use Rattle.book.specs.Symbols.{is_terminal}
-use Rattle.source.specs.Streams.{Token, Stream, clean, fault, ends, before, without, all_terminals}
+use Rattle.source.specs.Streams.{Token, clean, fault, ends, before, without, all_terminals}
 use Rattle.source.specs.Texts.{text_from}
 use Rattle.source.specs.Tapes.{tape_from, other_kind, word_kind, end_kind}
 use Rattle.source.specs.States.{tape_means}

@@ -1,4 +1,6 @@
 // What a read takes its words from: texts, tapes, and a layer that skips a code of any source below it.
+#![tactic(auto)]
+
 pub mod drains;
 pub mod lends;
 pub mod skips;

@@ -8,4 +8,4 @@ pub returns-in-Ok : goal.returns-in-Ok
 returns-in-Ok c =
     let bytes = c.args.bytes.now in
     let table = c.in-Ok.ensures.1 in
-    ap (λ ls. granted (text_from ls 0 bytes)) table.same ∙ text_granted bytes c.args.letters.now c.if-bytes-gt-MOST-BYTES.false table.long
+    ap (λ ls. granted (text_from ls 0 bytes)) table.same ∙ text_granted bytes c.args.letters.now c.if-bytes-gt-MOST_BYTES.false table.long
