@@ -1,9 +1,9 @@
 -- Reads, lookaheads and their overlap, turn by turn.
-use Rattle.std.proofs.Common.{◌≡◌, ℕ, zero, suc, ◌+◌, ◌-◌, ◌<◌, ◌≤◌, Bool, true, false, ◌⊎◌, List, [], ◌∷◌, map, length, get_or, drop, sym, refl, ap, ◌∙◌, inl, inr, arith}
+use Rattle.std.proofs.Common.{◌≡◌, ℕ, zero, suc, ◌+◌, ◌-◌, ◌<◌, ◌≤◌, Bool, true, false, ◌⊎◌, List, [], ◌∷◌, map, length, get_or, drop, refl, ap, ◌∙◌, inl, inr}
 use Rattle.std.proofs.lemmas.List.{drop_all}
 use Rattle.book.specs.Rules.{Production}
 use Rattle.grammar.specs.Items.{Items, read_row, read_rows}
-use Rattle.grammar.specs.Lookahead.{Look, in_lookahead, lookahead_of, meets, overlap}
+use Rattle.grammar.specs.Lookahead.{Look, lookahead_of, meets, overlap}
 use Rattle.grammar.specs.Numbered.{outer}
 use Rattle.grammar.specs.Sets.{Flags, codes, has, insert, union, keep, up_from}
 use Rattle.grammar.proofs.Turns.{keep_more, up_done, at_drops_more}

@@ -1,5 +1,5 @@
 -- Worked cases of building: books, and what a build of each answers under a policy.
-use Rattle.std.specs.Prelude.{◌≡◌, ℕ, zero, suc, false, List, [], ◌∷◌, ◌++◌, map, length, slice_index_or}
+use Rattle.std.specs.Prelude.{◌≡◌, ℕ, suc, false, List, [], ◌∷◌, map, length, slice_index_or}
 use Rattle.book.specs.Answers.{Answer, granted, refused, no}
 use Rattle.book.specs.Rules.{Production, ◌⟶◌}
 use Rattle.grammar.specs.Lookahead.{Policy, slr, slr_if_adequate, lslr}

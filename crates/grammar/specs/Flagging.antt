@@ -3,7 +3,7 @@ use Rattle.std.specs.Prelude.{◌≡◌, ℕ, zero, suc, ◌+◌, ◌<◌, ◌�
 use Rattle.std.proofs.Common.{inl, inr, sym, ap, ◌∙◌, subst, arith, length-set}
 use Rattle.std.proofs.lemmas.List.{ext_get_or}
 use Rattle.std.proofs.lemmas.Bool.{cases_eq, both_ways}
-use Rattle.grammar.specs.Sets.{Flags, has, insert, union, up_from, symbol_count, codes, keep, through}
+use Rattle.grammar.specs.Sets.{Flags, has, insert, union, up_from, symbol_count, codes, through}
 use Rattle.grammar.specs.Rounds.{In, unset, insert_keeps, insert_from, insert_has, insert_or}
 
 -- Codes.

@@ -3,7 +3,7 @@ use Rattle.std.specs.Prelude.{ℕ, Bool, true, false, ◌&&◌, List, [], ◌∷
 use Rattle.book.specs.Rules.{Production}
 use Rattle.book.specs.Symbols.{longest_right}
 use Rattle.grammar.specs.Sets.{Flags, has, insert, none, times, keep, up_from}
-use Rattle.grammar.specs.Numbered.{outer, line_at}
+use Rattle.grammar.specs.Numbered.{line_at}
 
 abbrev pub Items : Type 0
 Items = List Flags

@@ -1,5 +1,5 @@
 -- Laws that tie what is worked out to what it means, for every book within its bounds.
-use Rattle.std.specs.Prelude.{◌≡◌, ℕ, suc, ◌<◌, ◌≤◌, Bool, true, false, ◌↔◌, List, [], ◌∷◌, length, get_or, Some, None, Option, ◌≢◌, slice_index_or}
+use Rattle.std.specs.Prelude.{◌≡◌, ℕ, ◌<◌, ◌≤◌, true, ◌↔◌, List, [], ◌∷◌, length, get_or, Some, None, Option, ◌≢◌, slice_index_or}
 use Rattle.book.specs.Answers.{granted, refused, no}
 use Rattle.book.specs.Rules.{Production, all_bounded}
 use Rattle.grammar.specs.Sets.{Flags, has, symbol_count}
@@ -10,7 +10,7 @@ use Rattle.grammar.specs.Items.{Items, dot_count, reads, close, onward, start_ke
 use Rattle.grammar.specs.Lookahead.{Policy, Look, slr, leftmost_follow, slr_if_adequate, expand}
 use Rattle.grammar.specs.States.{items_of, number_of, kernels_of, most_states}
 use Rattle.grammar.specs.Build.{Act, nothing, accept, shift, reduce, conflict, build_says}
-use Rattle.grammar.specs.Meaning.{rule_of, InBook, LeftCorner, RightCorner, LeftmostFollower, Follower, Reached, Yields, Occurs, ItemSet, Holds, after, Closed, Expanded, Next, Move, shifts, accepts, reduces, Applies}
+use Rattle.grammar.specs.Meaning.{rule_of, InBook, LeftCorner, RightCorner, LeftmostFollower, Follower, Reached, Yields, Occurs, Holds, after, Closed, Expanded, Next, Move, shifts, accepts, reduces, Applies}
 
 -- Corners and followers.
 

@@ -1,6 +1,5 @@
 -- Lookahead policies, and expansion by the lookaheads that they give.
-use Rattle.std.specs.Prelude.{ℕ, zero, suc, Bool, true, false, not, ◌&&◌, List, [], ◌∷◌, map, length, ◌==◌, nat_le, slice_index_or}
-use Rattle.book.specs.Rules.{Production}
+use Rattle.std.specs.Prelude.{ℕ, zero, suc, Bool, true, false, not, ◌&&◌, List, [], ◌∷◌, map, ◌==◌, nat_le, slice_index_or}
 use Rattle.book.specs.Symbols.{first_nonterminal}
 use Rattle.grammar.specs.Sets.{Flags, has, insert, union, up_from, codes, any, keep}
 use Rattle.grammar.specs.Numbered.{line_at, first}

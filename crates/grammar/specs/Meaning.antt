@@ -1,5 +1,5 @@
 -- The construction in words: inductive relations that a reader believes. Rules go by their numbers, the outer rule by 0.
-use Rattle.std.specs.Prelude.{◌≡◌, ℕ, zero, suc, ◌≤◌, Bool, true, false, List, [], ◌∷◌, length, drop, slice_index_or}
+use Rattle.std.specs.Prelude.{◌≡◌, ℕ, suc, ◌≤◌, Bool, true, false, List, [], ◌∷◌, length, drop, slice_index_or}
 use Rattle.book.specs.Rules.{Production}
 use Rattle.book.specs.Symbols.{is_terminal, is_nonterminal}
 use Rattle.grammar.specs.Sets.{has}

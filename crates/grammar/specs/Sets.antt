@@ -1,6 +1,6 @@
 -- Sets of symbols as flags: whether symbol x is in the set stands at place x of a list.
 -- A test that decides whether a computation goes on stands in an `elim`, whose cases are computed only when they are reached.
-use Rattle.std.specs.Prelude.{ℕ, zero, suc, Bool, true, false, cond, List, [], ◌∷◌, set, replicate, slice_index_or, slice_set}
+use Rattle.std.specs.Prelude.{ℕ, zero, suc, Bool, true, false, cond, List, [], ◌∷◌, replicate, slice_index_or, slice_set}
 
 abbrev pub Flags : Type 0
 Flags = List Bool

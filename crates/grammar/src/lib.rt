@@ -1,4 +1,6 @@
 // The construction: relations of a book, useful symbols, lookahead policies.
+#![tactic(auto)]
+
 pub mod growing;
 pub mod items;
 pub mod laws;

@@ -1,6 +1,6 @@
-use Rattle.std.proofs.Common.{◌≡◌, false, length, drop}
+use Rattle.std.proofs.Common.{◌≡◌, false, drop}
 use Rattle.book.specs.Held.{productions_of}
-use Rattle.grammar.specs.Sets.{symbol_count, through}
+use Rattle.grammar.specs.Sets.{through}
 use Rattle.grammar.proofs.growing.round.Given as goal
 
 abbrev pub invariant-loop-rule : goal.invariant-loop-rule

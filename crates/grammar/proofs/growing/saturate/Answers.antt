@@ -1,4 +1,4 @@
-use Rattle.std.proofs.Common.{◌≡◌, ◌+◌, ◌-◌, sym, refl, ap, ◌∙◌}
+use Rattle.std.proofs.Common.{◌+◌, ◌-◌, sym, refl, ap, ◌∙◌}
 use Rattle.book.specs.Held.{productions_of}
 use Rattle.grammar.specs.Sets.{Flags, symbol_count, times, through}
 use Rattle.grammar.specs.Rounds.{times_still}

@@ -1,4 +1,4 @@
-use Rattle.std.proofs.Common.{◌≡◌, ◌+◌, ◌<◌, ◌≤◌, [], length, get_or, drop, sym, ap, ◌∙◌, inl, inr, arith}
+use Rattle.std.proofs.Common.{◌+◌, ◌<◌, ◌≤◌, [], length, get_or, drop, sym, ap, ◌∙◌, inl, inr, arith}
 use lib.ListN.{length-map}
 use Rattle.book.specs.Held.{production_of, productions_of}
 use Rattle.grammar.specs.Items.{read_row, read_rows}
@@ -18,7 +18,7 @@ loop-k-preserved c =
     let items = c.args.items.now in
     let k = c.loop-k.k in
     let h : k < length lines = omega (arith, length-map c.args.rules.now production_of, c.if-k-rules.false) in
-    ap (λ s. read_rows s (drop (k + 1) lines) (drop (k + 1) items)) (c.read-row.ensures ∙ ap (λ ws. read_row c.loop-k.set ws (get_or items k [])) c.right-of.ensures)
+    ap (λ s. read_rows s (drop (k + 1) lines) (drop (k + 1) items)) (c.read_row.ensures ∙ ap (λ ws. read_row c.loop-k.set ws (get_or items k [])) c.right_of.ensures)
     ∙ sym (read_rows_more c.loop-k.set lines items k h c.loop-k-test.true) ∙ c.loop-k.invariant
 
 pub returns : goal.returns

@@ -10,7 +10,7 @@ use Rattle.grammar.specs.Relating.{related_by}
 use Rattle.grammar.specs.Sets.{Flags, keep, union, up_from}
 use Rattle.grammar.proofs.Overlapping.{overlap_here, overlap_on, overlap_past, overlap_done}
 use Rattle.grammar.proofs.lookaheads.is_conflicting.Goals as goal
-use Rattle.grammar.proofs.lookaheads.is_conflicting.Goals.{then-is-complete+else-meet, else-is-complete}
+use Rattle.grammar.proofs.lookaheads.is_conflicting.Goals.{then-is_complete+else-meet, else-is_complete}
 
 -- what is left to look at, from a rule up
 module _ (rel : Relations) (ls : List Production) (closed : Items) (k : ℕ) (seen : Flags) where
@@ -57,7 +57,7 @@ pub returns-then-meet : goal.returns-then-meet
 returns-then-meet c =
     let many = length-map c.args.rules.now production_of in
     sym (met_here (related_by c.args.sets.now (productions_of c.args.rules.now)) (productions_of c.args.rules.now) c.args.closed.now c.loop-number.number c.loop-number.seen
-    (omega (arith, many, c.loop-number-test.true)) _ c.is-complete.ensures c.if-is-complete.true _ c.slr-lookahead-lookahead.ensures _ c.meet.ensures c.if-meet.true)
+    (omega (arith, many, c.loop-number-test.true)) _ c.is_complete.ensures c.if-is_complete.true _ c.slr_lookahead-lookahead.ensures _ c.meet.ensures c.if-meet.true)
     ∙ c.loop-number.invariant
 
 pub loop-number-preserved : goal.loop-number-preserved
@@ -66,32 +66,32 @@ loop-number-preserved c =
     let inside : c.loop-number.number ≤ length (productions_of c.args.rules.now) = omega (arith, many, c.loop-number-test.true) in
     let rel = related_by c.args.sets.now (productions_of c.args.rules.now) in
     let ls = productions_of c.args.rules.now in
-    elim c.if-is-complete.branch [
-      | then-is-complete+else-meet w ↦
-          unmet_here rel ls c.args.closed.now c.loop-number.number c.loop-number.seen inside _ c.is-complete.ensures w.if-is-complete.true
-          _ w.slr-lookahead-lookahead.ensures _ w.meet.ensures w.if-meet.false _ (w.seen-is ∙ w.unite.ensures)
+    elim c.if-is_complete.branch [
+      | then-is_complete+else-meet w ↦
+          unmet_here rel ls c.args.closed.now c.loop-number.number c.loop-number.seen inside _ c.is_complete.ensures w.if-is_complete.true
+          _ w.slr_lookahead-lookahead.ensures _ w.meet.ensures w.if-meet.false _ (w.seen-is ∙ w.unite.ensures)
           ∙ c.loop-number.invariant
-      | else-is-complete w ↦
-          past_here rel ls c.args.closed.now c.loop-number.number c.loop-number.seen inside _ c.is-complete.ensures w.if-is-complete.false _ w.seen-is
+      | else-is_complete w ↦
+          past_here rel ls c.args.closed.now c.loop-number.number c.loop-number.seen inside _ c.is_complete.ensures w.if-is_complete.false _ w.seen-is
           ∙ c.loop-number.invariant
     ]
 
-pub returns-after-is-complete : goal.returns-after-is-complete
-returns-after-is-complete c =
+pub returns-after-is_complete : goal.returns-after-is_complete
+returns-after-is_complete c =
     let many = length-map c.args.rules.now production_of in
     let inside : c.loop-number.number ≤ length (productions_of c.args.rules.now) = omega (arith, many, c.loop-number-test.true) in
     let rel = related_by c.args.sets.now (productions_of c.args.rules.now) in
     let ls = productions_of c.args.rules.now in
     let over : length ls < c.loop-number.number + 1 = omega (arith, many) in
-    elim c.if-is-complete.branch [
-      | then-is-complete+else-meet w ↦
-          sym (none_left rel ls c.args.closed.now (c.loop-number.number + 1) c.if-is-complete.seen over)
-          ∙ unmet_here rel ls c.args.closed.now c.loop-number.number c.loop-number.seen inside _ c.is-complete.ensures w.if-is-complete.true
-          _ w.slr-lookahead-lookahead.ensures _ w.meet.ensures w.if-meet.false _ (w.seen-is ∙ w.unite.ensures)
+    elim c.if-is_complete.branch [
+      | then-is_complete+else-meet w ↦
+          sym (none_left rel ls c.args.closed.now (c.loop-number.number + 1) c.if-is_complete.seen over)
+          ∙ unmet_here rel ls c.args.closed.now c.loop-number.number c.loop-number.seen inside _ c.is_complete.ensures w.if-is_complete.true
+          _ w.slr_lookahead-lookahead.ensures _ w.meet.ensures w.if-meet.false _ (w.seen-is ∙ w.unite.ensures)
           ∙ c.loop-number.invariant
-      | else-is-complete w ↦
-          sym (none_left rel ls c.args.closed.now (c.loop-number.number + 1) c.if-is-complete.seen over)
-          ∙ past_here rel ls c.args.closed.now c.loop-number.number c.loop-number.seen inside _ c.is-complete.ensures w.if-is-complete.false _ w.seen-is
+      | else-is_complete w ↦
+          sym (none_left rel ls c.args.closed.now (c.loop-number.number + 1) c.if-is_complete.seen over)
+          ∙ past_here rel ls c.args.closed.now c.loop-number.number c.loop-number.seen inside _ c.is_complete.ensures w.if-is_complete.false _ w.seen-is
           ∙ c.loop-number.invariant
     ]
 

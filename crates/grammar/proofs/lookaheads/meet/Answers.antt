@@ -1,4 +1,4 @@
-use Rattle.std.proofs.Common.{◌≡◌, ℕ, Bool, ◌&&◌, sym, ◌∙◌}
+use Rattle.std.proofs.Common.{ℕ, Bool, ◌&&◌, sym, ◌∙◌}
 use Rattle.grammar.specs.Sets.{has, symbol_count}
 use Rattle.grammar.proofs.Turns.{any_here, any_more, any_done}
 use Rattle.grammar.proofs.lookaheads.meet.Goals as goal

@@ -9,7 +9,7 @@ use Rattle.grammar.proofs.relations.corners.Goals as goal
 
 pub loop-x-preserved : goal.loop-x-preserved
 loop-x-preserved c =
-    fill_more (corners_of (end_of c.args.end) (productions_of c.args.rules.now)) symbol_count c.loop-x.all c.loop-x.x c.corners-of.result c.loop-x-test.true c.loop-x.invariant.0 c.corners-of.ensures c.loop-x.invariant.1
+    fill_more (corners_of (end_of c.args.end) (productions_of c.args.rules.now)) symbol_count c.loop-x.all c.loop-x.x c.corners_of.result c.loop-x-test.true c.loop-x.invariant.0 c.corners_of.ensures c.loop-x.invariant.1
 
 pub returns : goal.returns
 returns c =

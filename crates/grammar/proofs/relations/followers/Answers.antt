@@ -1,4 +1,4 @@
-use Rattle.std.proofs.Common.{◌≡◌, List, [], ◌∷◌, ◌++◌, map, length, sym, ap, ◌∙◌, ap₂, arith, length-set}
+use Rattle.std.proofs.Common.{[], ◌∷◌, ◌++◌, map, sym, ap, ◌∙◌, ap₂, arith, length-set}
 use Rattle.std.proofs.lemmas.List.{take_more_set, take_all, map_more}
 use Rattle.grammar.specs.Relations.{followers_of}
 use Rattle.grammar.proofs.relations.followers.Goals as goal
@@ -9,8 +9,8 @@ loop-a-preserved c =
     let all = c.loop-a.all in
     let a = c.loop-a.a in (
       length-set all a _ ∙ c.loop-a.invariant.0,
-      take_more_set all a c.followers-of.result (omega (arith, c.loop-a.invariant.0))
-          ∙ ap₂ (λ t v. t ++ v ∷ []) c.loop-a.invariant.1 c.followers-of.ensures
+      take_more_set all a c.followers_of.result (omega (arith, c.loop-a.invariant.0))
+          ∙ ap₂ (λ t v. t ++ v ∷ []) c.loop-a.invariant.1 c.followers_of.ensures
           ∙ sym (map_more f c.args.leftmosts.now a [] (omega (arith, c.told-leftmosts))),
     )
 

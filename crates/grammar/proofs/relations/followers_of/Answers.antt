@@ -1,6 +1,6 @@
 use Rattle.std.proofs.Common.{◌≡◌, ℕ, ◌+◌, ◌-◌, Bool, true, false, List, [], ◌∷◌, map, get_or, sym, ap, ◌∙◌}
 use Rattle.grammar.specs.Relations.{union_of}
-use Rattle.grammar.specs.Sets.{Flags, has, symbol_count, union, up_from, keep}
+use Rattle.grammar.specs.Sets.{Flags, has, symbol_count, up_from, keep}
 use Rattle.grammar.proofs.Turns.{keep_more, up_done}
 use Rattle.grammar.proofs.relations.followers_of.Goals as goal
 use Rattle.grammar.proofs.relations.followers_of.Goals.{then-leftmost-y, else-leftmost-y}

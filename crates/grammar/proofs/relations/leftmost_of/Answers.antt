@@ -29,8 +29,8 @@ loop-rule-preserved c =
     let i = c.loop-rule.rule-index in
     let s = c.loop-rule.set in
     let rest = productions_of (drop (i + 1) rules) in
-    let put : c.insert-behind.new.set ≡ f s (production_of c.rule-item.result) =
-    c.insert-behind.ensures ∙ ap (λ ws. behind (λ x. has (get_or c.args.rights.now x []) c.args.a) s (get_or ws 0 0) (drop 1 ws)) c.right.ensures.value in
+    let put : c.insert_behind.new.set ≡ f s (production_of c.rule-item.result) =
+    c.insert_behind.ensures ∙ ap (λ ws. behind (λ x. has (get_or c.args.rights.now x []) c.args.a) s (get_or ws 0 0) (drop 1 ws)) c.right.ensures.value in
     ap (through f rest) put
     ∙ ap (λ r. through f rest (f s (production_of r))) c.rule-item.is
     ∙ sym (at_drop_more (λ rs. through f (productions_of rs) s) rules i c.rule-item.result c.loop-rule-test.true)

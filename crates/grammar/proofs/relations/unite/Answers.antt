@@ -1,4 +1,4 @@
-use Rattle.std.proofs.Common.{◌≡◌, Bool, true, false, cond, ◌||◌, [], ◌++◌, length, get_or, sym, refl, ◌∙◌, ap₂, arith, length-set}
+use Rattle.std.proofs.Common.{◌≡◌, Bool, true, false, cond, ◌||◌, ◌++◌, get_or, sym, refl, ◌∙◌, ap₂, arith, length-set}
 use Rattle.std.proofs.lemmas.List.{append-nil, take_all, drop_all}
 use Rattle.grammar.specs.Sets.{union}
 use Rattle.grammar.proofs.Turns.{beside_more}

@@ -1,4 +1,4 @@
-use Rattle.std.proofs.Common.{◌≡◌, true, false, length, set, sym, ap, ◌∙◌, inl, inr, arith, rules}
+use Rattle.std.proofs.Common.{◌≡◌, true, false, length, set, sym, ap, ◌∙◌, arith, rules}
 use lib.Seq.{set-get_or}
 use Rattle.std.proofs.lemmas.List.{set_past}
 use Rattle.grammar.specs.Sets.{insert}

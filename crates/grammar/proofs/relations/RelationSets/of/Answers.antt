@@ -1,4 +1,4 @@
-use Rattle.std.proofs.Common.{◌≡◌, List, ap, ◌∙◌, ap₂}
+use Rattle.std.proofs.Common.{List, ap, ◌∙◌, ap₂}
 use Rattle.book.specs.Held.{productions_of}
 use Rattle.grammar.specs.Numbered.{numbered}
 use Rattle.grammar.specs.Relations.{Relations, with_followers, with_leftmosts}
