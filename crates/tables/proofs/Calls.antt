@@ -1,11 +1,11 @@
 -- Expansion, one complete rule and one row at a time.
-use Rattle.std.proofs.Common.{◌≡◌, ℕ, zero, suc, ◌+◌, ◌-◌, ◌<◌, ◌≤◌, Bool, true, false, not, leb, List, [], ◌∷◌, ◌++◌, map, length, get_or, take, drop, set, sym, refl, ap, ◌∙◌, ap₂, arith}
+use Rattle.std.proofs.Common.{◌≡◌, ℕ, zero, suc, ◌+◌, ◌<◌, ◌≤◌, Bool, true, false, not, leb, List, [], ◌∷◌, ◌++◌, map, length, get_or, take, drop, set, sym, refl, ap, ◌∙◌, ap₂, arith}
 use lib.ListN.{length-map}
 use Rattle.std.proofs.lemmas.List.{append_assoc, drop_more, take_more_set, drop-set-lt}
 use Rattle.std.proofs.lemmas.Bool.{le-leb}
 use Rattle.book.specs.declared.rules.Rule.{Rule}
 use Rattle.book.specs.Held.{production_of, productions_of}
-use Rattle.grammar.specs.Sets.{Flags, has, insert, symbol_count, codes, any, keep, up_from}
+use Rattle.grammar.specs.Sets.{Flags, has, symbol_count, codes, any, keep, up_from}
 use Rattle.grammar.specs.Items.{Items}
 use Rattle.grammar.specs.Numbered.{line_at, first}
 use Rattle.grammar.specs.Relations.{Relations}

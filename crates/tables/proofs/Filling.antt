@@ -1,9 +1,9 @@
 -- The rows of all states, one after another, and what a build answers by them.
-use Rattle.std.proofs.Common.{◌≡◌, ℕ, suc, ◌+◌, ◌<◌, ◌≤◌, Bool, true, false, leb, List, [], ◌∷◌, ◌++◌, map, length, get_or, take, drop, Some, None, Option, sym, refl, ap, ◌∙◌, ap₂, arith, length-take}
+use Rattle.std.proofs.Common.{◌≡◌, ℕ, suc, ◌+◌, ◌<◌, ◌≤◌, true, false, List, [], ◌∷◌, length, get_or, take, drop, Some, None, Option, sym, ap, ◌∙◌, ap₂, arith, length-take}
 use lib.ListN.{length-map}
 use Rattle.std.proofs.lemmas.List.{at_drop_more, at_drop_all, get_or-map}
 use Rattle.std.proofs.lemmas.Bool.{le-leb, lt-leb}
-use Rattle.book.specs.Answers.{Answer, granted, refused, no}
+use Rattle.book.specs.Answers.{granted, refused, no}
 use Rattle.grammar.specs.Items.{Items, close}
 use Rattle.grammar.specs.Lookahead.{Policy}
 use Rattle.grammar.specs.Relations.{Relations}

@@ -1,7 +1,7 @@
 -- Rows of actions, place by place and rule by rule.
 use Rattle.std.proofs.Common.{◌≡◌, ℕ, zero, suc, ◌+◌, ◌-◌, ◌<◌, ◌≤◌, Bool, true, false, List, [], ◌∷◌, ◌++◌, map, length, get_or, take, drop, set, Some, sym, refl, ap, ◌∙◌, ap₂, arith, length-set}
 use Rattle.std.proofs.lemmas.List.{at_drop_more, take_more_set, take_all, map_push}
-use Rattle.grammar.specs.Sets.{Flags, codes, symbol_count, keep, up_from}
+use Rattle.grammar.specs.Sets.{codes, symbol_count, keep, up_from}
 use Rattle.grammar.specs.Lookahead.{Look, in_lookahead, lookahead_of}
 use Rattle.grammar.specs.Build.{Act, beside, reduce_by, with_reduces, is_conflict, conflict_in}
 use Rattle.grammar.proofs.Turns.{table_more, keep_more}

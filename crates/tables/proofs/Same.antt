@@ -1,5 +1,5 @@
 -- Comparing item sets, and numbering kernels.
-use Rattle.std.proofs.Common.{◌≡◌, ℕ, zero, suc, ◌+◌, ◌<◌, ◌≤◌, Bool, true, false, List, [], ◌∷◌, map, length, get_or, take, drop, sym, refl, ap, ◌∙◌, arith, length-take}
+use Rattle.std.proofs.Common.{◌≡◌, ℕ, zero, suc, ◌+◌, ◌<◌, ◌≤◌, Bool, true, false, List, [], ◌∷◌, map, length, get_or, take, drop, refl, ap, ◌∙◌, arith, length-take}
 use mathlib.Core.Bool.{beq}
 use Rattle.std.proofs.lemmas.List.{at_drop_more, get_or-take}
 use Rattle.grammar.specs.Sets.{Flags}

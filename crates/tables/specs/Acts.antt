@@ -1,5 +1,5 @@
 -- What the code's actions and rows stand for.
-use Rattle.std.specs.Prelude.{◌≡◌, ℕ, ◌+◌, Bool, true, false, List, [], ◌∷◌, map, Ok, Err, Result}
+use Rattle.std.specs.Prelude.{◌≡◌, ℕ, ◌+◌, true, false, List, [], ◌∷◌, map, Ok, Err, Result}
 use Rattle.std.specs.declared.option.Option as option
 use Rattle.std.specs.declared.option.Option.TheVariants as options
 use Rattle.book.specs.Rules.{Production}

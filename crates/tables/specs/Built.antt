@@ -1,5 +1,5 @@
 -- What tables stand for, and the refusal of each error.
-use Rattle.std.specs.Prelude.{ℕ, ◌+◌, List, [], ◌∷◌, ◌++◌, map, length, take, drop, nat_le, nat_lt, slice_index_or}
+use Rattle.std.specs.Prelude.{ℕ, List, [], ◌∷◌, ◌++◌, map, length, take, drop, nat_le, nat_lt, slice_index_or}
 use Rattle.book.specs.Answers.{Answer, granted, Refusal, no, refuse_if, leaves}
 use Rattle.book.specs.Rules.{Production}
 use Rattle.book.specs.Symbols.{most_rules}

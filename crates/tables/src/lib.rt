@@ -1,4 +1,6 @@
 // The states of a book, and its action tables.
+#![tactic(auto)]
+
 pub mod actions;
 pub mod building;
 pub mod closing;

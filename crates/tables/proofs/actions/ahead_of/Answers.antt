@@ -1,4 +1,4 @@
-use Rattle.std.proofs.Common.{◌≡◌, sym, ◌∙◌}
+use Rattle.std.proofs.Common.{sym, ◌∙◌}
 use Rattle.book.specs.Held.{productions_of}
 use Rattle.grammar.specs.Relating.{related_by}
 use Rattle.grammar.proofs.Overlapping.{lookahead_own}

@@ -1,8 +1,8 @@
-use Rattle.std.proofs.Common.{◌≡◌, ℕ, ◌+◌, ◌-◌, List, [], ◌∷◌, map, length, take, sym, refl, ap, ◌∙◌, ap₂, arith, length-take, rules}
+use Rattle.std.proofs.Common.{◌≡◌, ℕ, ◌+◌, ◌-◌, List, map, length, take, ap, ◌∙◌, ap₂, arith, length-take, rules}
 use Rattle.book.specs.Held.{productions_of}
 use Rattle.grammar.specs.Build.{Act, row_with}
 use Rattle.grammar.specs.Items.{Items, reads, complete_in}
-use Rattle.grammar.specs.Lookahead.{Policy, Look}
+use Rattle.grammar.specs.Lookahead.{Look}
 use Rattle.grammar.specs.Relations.{Relations}
 use Rattle.grammar.specs.Relating.{related_by}
 use Rattle.grammar.specs.Sets.{codes}
@@ -26,7 +26,7 @@ returns g c =
     let row : ℕ → Items → List Act = λ j q. map (shift_at (held_in j c.args.m c.args.kernels.now) lines q (reads lines q)) codes in
     let look : Look = policy rel base in
     let complete = complete_in lines base in
-    c.reduce-all.ensures
+    c.reduce_all.ensures
     ∙ ap (λ j. reduced (policy rel (take j closed)) (complete_in lines (take j closed)) (map cell_act c.shifts-cells.result)) z
     ∙ ap (reduced look complete) (c.shifts-cells.ensures ∙ ap₂ row long (ap (λ j. take j made) z))
     ∙ reduced_is look complete (shift_at (held_in n c.args.m c.args.kernels.now) lines (take n made) (reads lines (take n made)))

@@ -1,4 +1,4 @@
-use Rattle.std.proofs.Common.{◌≡◌, ℕ, ◌+◌, ◌-◌, Bool, true, false, List, [], ◌∷◌, map, length, sym, refl, ap, ◌∙◌, arith}
+use Rattle.std.proofs.Common.{◌≡◌, ◌+◌, ◌-◌, true, false, map, length, sym, ap, ◌∙◌, arith}
 use lib.ListN.{length-map}
 use Rattle.book.specs.Held.{production_of, productions_of}
 use Rattle.grammar.specs.Build.{reduce_by}
@@ -11,7 +11,7 @@ use Rattle.tables.specs.Acts.{cell_act, besides, reduced}
 use Rattle.tables.specs.Kept.{lines_of}
 use Rattle.tables.proofs.Rowing.{reduced_more}
 use Rattle.tables.proofs.actions.reduce_all.Goals as goal
-use Rattle.tables.proofs.actions.reduce_all.Goals.{then-is-complete, else-is-complete}
+use Rattle.tables.proofs.actions.reduce_all.Goals.{then-is_complete, else-is_complete}
 
 pub loop-number-init : goal.loop-number-init
 loop-number-init g c =
@@ -30,12 +30,12 @@ loop-number-preserved g c =
     let k = c.loop-number.number in
     let acts = map cell_act c.loop-number.cells in
     let rest = reduced look (keep p (up_from (k + 1) (n - (k + 1)))) in
-    elim c.if-is-complete.branch [
-      | then-is-complete w ↦
-          ap rest (ap (map cell_act) w.cells-is ∙ w.reduce-by.ensures ∙ ap (λ s. besides (reduce_by k) s acts) w.ahead-of-ahead.ensures)
-          ∙ sym (reduced_more look p n k true acts c.loop-number-test.true (sym w.if-is-complete.ensures)) ∙ c.loop-number.invariant
-      | else-is-complete w ↦
-          ap rest (ap (map cell_act) w.cells-is) ∙ sym (reduced_more look p n k false acts c.loop-number-test.true (sym w.if-is-complete.ensures)) ∙ c.loop-number.invariant
+    elim c.if-is_complete.branch [
+      | then-is_complete w ↦
+          ap rest (ap (map cell_act) w.cells-is ∙ w.reduce_by.ensures ∙ ap (λ s. besides (reduce_by k) s acts) w.ahead_of-ahead.ensures)
+          ∙ sym (reduced_more look p n k true acts c.loop-number-test.true (sym w.if-is_complete.ensures)) ∙ c.loop-number.invariant
+      | else-is_complete w ↦
+          ap rest (ap (map cell_act) w.cells-is) ∙ sym (reduced_more look p n k false acts c.loop-number-test.true (sym w.if-is_complete.ensures)) ∙ c.loop-number.invariant
     ]
 
 pub returns : goal.returns

@@ -1,4 +1,4 @@
-use Rattle.std.proofs.Common.{◌≡◌, ◌+◌, true, false, List, [], ◌∷◌, ◌++◌, map, length, take, sym, ap, ◌∙◌, ap₂, arith, length-set}
+use Rattle.std.proofs.Common.{true, false, [], ◌∷◌, ◌++◌, map, take, sym, ap, ◌∙◌, ap₂, arith, length-set}
 use Rattle.std.proofs.lemmas.List.{at_drop_all, take_more_set, take_all, map_push, map_more}
 use Rattle.grammar.specs.Build.{conflict_in}
 use Rattle.tables.specs.declared.actions.Cell.TheVariants.{Free}

@@ -1,7 +1,7 @@
 use Rattle.std.proofs.Common.{◌≡◌, ◌+◌, ◌-◌, length, sym, ap, ◌∙◌, arith}
 use lib.ListN.{length-map}
 use Rattle.book.specs.Held.{production_of}
-use Rattle.grammar.specs.Items.{Items, opened, close_round}
+use Rattle.grammar.specs.Items.{opened, close_round}
 use Rattle.grammar.specs.Sets.{times}
 use Rattle.grammar.specs.Rounds.{times_still}
 use Rattle.grammar.proofs.Turns.{times_more, times_done}

@@ -1,7 +1,7 @@
-use Rattle.std.proofs.Common.{◌≡◌, ◌+◌, ◌≤◌, Bool, true, false, [], ◌∷◌, ◌++◌, length, get_or, take, drop, set, sym, refl, ap, ◌∙◌, arith}
+use Rattle.std.proofs.Common.{◌≡◌, ◌+◌, [], ◌++◌, get_or, take, drop, set, sym, refl, ap, ◌∙◌, arith}
 use lib.ListN.{length-map}
 use lib.Seq.{set-get_or}
-use Rattle.std.proofs.lemmas.List.{append-nil, take_all, drop_all, take-append-drop}
+use Rattle.std.proofs.lemmas.List.{drop_all, take-append-drop}
 use Rattle.std.proofs.lemmas.Bool.{both_ways}
 use Rattle.book.specs.Held.{production_of}
 use Rattle.book.specs.Rules.{Production}
@@ -23,7 +23,7 @@ loop-k-preserved c =
     let s = c.args.set.now in
     let row = get_or rows k [] in
     let left : Items → Items = λ q. take (k + 1) q ++ opened s (drop (k + 1) lines) (drop (k + 1) q) in
-    let wanted : c.contains.result ≡ has s (get_or lines k outer).lhs = c.contains.ensures ∙ ap (has s) c.left-of.ensures in
+    let wanted : c.contains.result ≡ has s (get_or lines k outer).lhs = c.contains.ensures ∙ ap (has s) c.left_of.ensures in
     let step : (v : Flags) → v ≡ insert_if c.contains.result row 0 → left (set rows k v) ≡ opened s lines c.args.items.now =
     λ v e. beside_more (opened s) (λ (p : Production) r. insert_if (has s p.lhs) r 0) (λ l ls r rs. refl) lines rows k outer [] v
     (omega (arith, c.requires.rows, length-map c.args.rules.now production_of)) (omega (arith, c.requires.rows)) (e ∙ ap (λ b. insert_if b row 0) wanted)

@@ -1,7 +1,6 @@
-use Rattle.std.proofs.Common.{◌≡◌, ℕ, List, [], ◌∷◌, ◌++◌, map, length, get_or, take, sym, ap, ◌∙◌, ap₂, arith, rules}
+use Rattle.std.proofs.Common.{◌≡◌, ℕ, List, [], ◌∷◌, ◌++◌, map, length, get_or, sym, ap, ◌∙◌, ap₂, arith, rules}
 use lib.ListN.{length-map}
 use Rattle.std.proofs.lemmas.List.{take_all, take_more, take_more_set, get_or-map, get_or-take}
-use Rattle.grammar.specs.Build.{Act, nothing}
 use Rattle.tables.specs.declared.actions.Row.{Row}
 use Rattle.tables.specs.declared.actions.Action.TheVariants.{None}
 use Rattle.tables.specs.Acts.{act_of, acts_of, word_of}
@@ -19,7 +18,7 @@ loop-x-preserved c =
     let array : length row.actions ≡ 81 = search rules in
     let at : get_or words x 0 ≡ word_of (act_of (get_or row.actions x None)) =
     get_or-map word_of (acts_of row) x (act_of None) 0 (omega (arith, length-map row.actions act_of)) ∙ ap word_of (get_or-map act_of row.actions x None (act_of None) (omega arith)) in
-    take_more_set out x c.word-of.result (omega (arith, c.requires)) ∙ ap₂ (λ t w. t ++ w ∷ []) c.loop-x.invariant (c.word-of.ensures ∙ ap (λ a. word_of (act_of a)) (get_or-take 81 row.actions x None (omega arith)) ∙ sym at) ∙ sym (take_more words x 0 (omega (arith, words_long row)))
+    take_more_set out x c.word_of.result (omega (arith, c.requires)) ∙ ap₂ (λ t w. t ++ w ∷ []) c.loop-x.invariant (c.word_of.ensures ∙ ap (λ a. word_of (act_of a)) (get_or-take 81 row.actions x None (omega arith)) ∙ sym at) ∙ sym (take_more words x 0 (omega (arith, words_long row)))
 
 pub returns : goal.returns
 returns c =

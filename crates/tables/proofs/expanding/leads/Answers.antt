@@ -1,4 +1,4 @@
-use Rattle.std.proofs.Common.{◌≡◌, ℕ, Bool, true, false, ◌&&◌, [], get_or, sym, refl, ◌∙◌, ap₂}
+use Rattle.std.proofs.Common.{◌≡◌, Bool, true, false, ◌&&◌, [], get_or, sym, refl, ◌∙◌, ap₂}
 use Rattle.grammar.specs.Sets.{has, symbol_count}
 use Rattle.grammar.proofs.Turns.{any_here, any_more, any_done}
 use Rattle.tables.specs.Kept.{leads_by}

@@ -1,7 +1,7 @@
-use Rattle.std.proofs.Common.{◌≡◌, ◌-◌, true, false, [], get_or}
+use Rattle.std.proofs.Common.{◌≡◌, ◌-◌, []}
 use Rattle.grammar.specs.Lookahead.{leads}
 use Rattle.grammar.specs.Relating.{related_by}
-use Rattle.grammar.specs.Sets.{has, any, symbol_count, up_from}
+use Rattle.grammar.specs.Sets.{any, symbol_count, up_from}
 use Rattle.tables.specs.Kept.{leads_by}
 use Rattle.tables.proofs.expanding.leads.Given as goal
 

@@ -1,4 +1,4 @@
-use Rattle.std.proofs.Common.{◌≡◌, Bool, true, false, [], sym, ◌∙◌, ap₂, arith}
+use Rattle.std.proofs.Common.{false, sym, ◌∙◌, ap₂, arith}
 use mathlib.Core.Bool.{beq}
 use Rattle.std.proofs.lemmas.List.{drop_all}
 use Rattle.std.proofs.lemmas.Bool.{not-true, not-false}

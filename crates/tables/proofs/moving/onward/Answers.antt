@@ -16,10 +16,10 @@ loop-k-preserved c =
     let x = c.args.symbol in
     let k = c.loop-k.k in
     let next = c.loop-k.next in
-    let v = c.move-row.result in
+    let v = c.move_row.result in
     let row = take longest_right (get_or rows k []) in
     let rest = onward x (drop (k + 1) lines) (drop (k + 1) rows) in
-    let moved : v ≡ false ∷ before x (get_or lines k outer).rhs row = c.move-row.ensures ∙ ap (λ ws. false ∷ before x ws row) c.right-of.ensures in
+    let moved : v ≡ false ∷ before x (get_or lines k outer).rhs row = c.move_row.ensures ∙ ap (λ ws. false ∷ before x ws row) c.right_of.ensures in
     let step : onward x (drop k lines) (drop k rows) ≡ (false ∷ before x (get_or lines k outer).rhs row) ∷ rest =
     at_drops_more (onward x) lines rows k outer [] (omega (arith, c.requires.rows, length-map c.args.rules.now production_of)) c.loop-k-test.true in (
       length-set next k v ∙ c.loop-k.invariant.0,

@@ -1,11 +1,11 @@
-use Rattle.std.proofs.Common.{◌≡◌, ℕ, ◌+◌, ◌-◌, ◌<◌, ◌≤◌, List, [], ◌∷◌, map, length, get_or, take, None, Option, sym, ap, ◌∙◌, subst, arith, length-take, rules}
+use Rattle.std.proofs.Common.{◌≡◌, ℕ, ◌+◌, ◌-◌, ◌<◌, ◌≤◌, List, [], length, get_or, take, None, Option, sym, ap, ◌∙◌, subst, arith, length-take, rules}
 use Rattle.book.specs.Held.{productions_of}
-use Rattle.grammar.specs.Items.{Items, close}
+use Rattle.grammar.specs.Items.{Items}
 use Rattle.grammar.specs.Lookahead.{Policy}
 use Rattle.grammar.specs.Relations.{Relations}
 use Rattle.grammar.specs.Relating.{related_by}
 use Rattle.grammar.specs.States.{items_from, items_of, visit, explore, kernels_of, most_states}
-use Rattle.tables.specs.Kept.{lines_of, held_in, Found}
+use Rattle.tables.specs.Kept.{held_in, Found}
 use Rattle.tables.proofs.Finding.{held_long, held_at, explore_more, explore_end, explore_grows}
 use Rattle.tables.proofs.states.explore.Goals as goal
 
@@ -33,8 +33,8 @@ loop-i-init g c =
     let rel : Relations = related_by c.args.sets.now (productions_of c.args.rules.now) in
     (omega arith, omega arith, search rules, ap (explore (g.L.Lookahead.policy c.args.look.now) rel most_states 0) c.requires.first)
 
-pub returns-in-err-count : goal.returns-in-err-count
-returns-in-err-count g c =
+pub returns-in_err-count : goal.returns-in_err-count
+returns-in_err-count g c =
     let policy = g.L.Lookahead.policy c.args.look.now in
     let rel : Relations = related_by c.args.sets.now (productions_of c.args.rules.now) in
     let n = length c.args.rules.now + 1 in
@@ -48,8 +48,8 @@ returns-in-err-count g c =
     let full : length made ≡ 101 = search rules in
     let long : length (take (n - 0) made) ≡ n = simp length-take (omega (arith, full, c.requires.few)) in
     let t = turn policy rel n m i rows made c.loop-i-test.true wide (c.expanded-items.ensures ∙ ap (items_from policy rel) c.closed.ensures) long in
-    over policy rel n i ks (visit rel.lines (take (n - 0) made) (held_in (length (take (n - 0) made)) m rows)) (kernels_of policy rel) _ c.from-residual.result
-    (omega (arith, c.loop-i.invariant.0)) l c.loop-i.invariant.3 t c.in-err-count.ensures c.from-residual.ensures
+    over policy rel n i ks (visit rel.lines (take (n - 0) made) (held_in (length (take (n - 0) made)) m rows)) (kernels_of policy rel) _ c.from_residual.result
+    (omega (arith, c.loop-i.invariant.0)) l c.loop-i.invariant.3 t c.in_err-count.ensures c.from_residual.ensures
 
 pub loop-i-preserved : goal.loop-i-preserved
 loop-i-preserved g c =
@@ -66,10 +66,10 @@ loop-i-preserved g c =
     let full : length made ≡ 101 = search rules in
     let long : length (take (n - 0) made) ≡ n = simp length-take (omega (arith, full, c.requires.few)) in
     let t = turn policy rel n m i rows made c.loop-i-test.true wide (c.expanded-items.ensures ∙ ap (items_from policy rel) c.closed.ensures) long in (
-      c.in-ok-count.ensures.1,
+      c.in_ok-count.ensures.1,
       omega (arith, c.loop-i.invariant.0),
       search rules,
-      ap (explore policy rel (most_states - (i + 1)) (i + 1)) (ap (λ j. held_in j c.in-ok-count.count c.visit.new.kernels) (sym long) ∙ c.in-ok-count.ensures.0 ∙ t)
+      ap (explore policy rel (most_states - (i + 1)) (i + 1)) (ap (λ j. held_in j c.in_ok-count.count c.visit.new.kernels) (sym long) ∙ c.in_ok-count.ensures.0 ∙ t)
           ∙ sym (explore_more policy rel i ks (omega (arith, c.loop-i.invariant.0)) l) ∙ c.loop-i.invariant.3,
     )
 

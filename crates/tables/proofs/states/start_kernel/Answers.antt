@@ -1,8 +1,8 @@
-use Rattle.std.proofs.Common.{◌≡◌, suc, ◌+◌, ◌≤◌, true, false, List, [], ◌∷◌, length, take, set, replicate, sym, ap, ◌∙◌, arith}
+use Rattle.std.proofs.Common.{◌≡◌, suc, ◌+◌, ◌∷◌, length, take, set, replicate, sym, ap, ◌∙◌, arith}
 use lib.ListN.{length-map}
 use Rattle.std.proofs.lemmas.List.{take-replicate}
 use Rattle.book.specs.Held.{production_of}
-use Rattle.grammar.specs.Items.{Items, no_dots, start_kernel}
+use Rattle.grammar.specs.Items.{Items, no_dots}
 use Rattle.grammar.specs.Sets.{insert}
 use Rattle.tables.proofs.states.start_kernel.Goals as goal
 

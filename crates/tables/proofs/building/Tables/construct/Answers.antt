@@ -1,4 +1,4 @@
-use Rattle.std.proofs.Common.{◌≡◌, ◌+◌, [], ◌∷◌, length, sym, ap, ◌∙◌, arith, rules}
+use Rattle.std.proofs.Common.{◌+◌, length, ap, ◌∙◌, arith}
 use Rattle.book.specs.Held.{productions_of}
 use Rattle.grammar.specs.Build.{within_states}
 use Rattle.grammar.specs.Relations.{Relations}
@@ -15,7 +15,7 @@ returns-in-Some g c =
     let n = length c.args.rules.now + 1 in
     let ks = held_in n c.in-Some.count c.explore.new.kernels in
     let found = c.in-Some.ensures in
-    c.fill-rows.ensures ∙ within_few policy rel ks (omega (arith, held_most n c.in-Some.count c.explore.new.kernels, found.1)) ∙ ap (within_states policy rel) found.0
+    c.fill_rows.ensures ∙ within_few policy rel ks (omega (arith, held_most n c.in-Some.count c.explore.new.kernels, found.1)) ∙ ap (within_states policy rel) found.0
 
 pub returns-in-None : goal.returns-in-None
 returns-in-None g c =

@@ -14,4 +14,4 @@ all_useful policy rules e = sym (ap (λ o. elim o [ Some x ↦ refused (no 7 (x 
 pub returns : goal.returns
 returns g c =
     let policy = g.L.Lookahead.policy c.args.look.now in
-    c.construct.ensures ∙ ap (built_by policy) c.of-sets.ensures.equal ∙ all_useful policy (productions_of c.args.rules.now) (sym c.in-default.ensures.equal)
+    c.construct.ensures ∙ ap (built_by policy) c.of-sets.ensures.equal ∙ all_useful policy (productions_of c.args.rules.now) (sym c.in_default.ensures.equal)
