@@ -1,7 +1,7 @@
 -- At each cut the reader moves on along the tree.
 use Rattle.std.proofs.Common.{◌≡◌, ℕ, suc, ◌+◌, Bool, true, false, List, [], ◌∷◌, sym, refl, ap, ◌∙◌, subst, arith}
 use Rattle.book.specs.Rules.{Production, all_bounded}
-use Rattle.grammar.specs.Meaning.{rule_of, InBook, Adjacent, here, later, LeftmostFollower, inside, expands, ends}
+use Rattle.grammar.specs.Meaning.{rule_of, InBook, Adjacent, here, later, LeftmostFollower, inside, expands}
 use Rattle.reading.specs.Trees.{Tree, Forest, node, ◌&◌, label, labels, MadeAll}
 use Rattle.reading.proofs.Basics.{ends_here, left_nonterminal, first_is}
 use Rattle.reading.specs.Tables.{Faithful}

@@ -2,7 +2,7 @@
 use Rattle.std.proofs.Common.{◌≡◌, ℕ, suc, ◌+◌, ◌*◌, Bool, true, false, List, [], sym, refl, ap, subst, arith}
 use mathlib.Core.Bool.{false≢true}
 use Rattle.book.specs.Rules.{Production, all_bounded}
-use Rattle.grammar.specs.Meaning.{rule_of, InBook, Adjacent, itself, RightCorner, LeftmostFollower, ends}
+use Rattle.grammar.specs.Meaning.{rule_of, InBook, Adjacent, itself, RightCorner, LeftmostFollower}
 use Rattle.reading.specs.Trees.{Tree, Forest, node, ◌&◌, labels, Made}
 use Rattle.reading.proofs.Basics.{Ends, ends_there, right_through}
 use Rattle.reading.specs.Tables.{Faithful}

@@ -1,5 +1,5 @@
 -- Worked cases of reading: books, lines, and what a read of the line answers on the tables that LSLR gives the book.
-use Rattle.std.specs.Prelude.{◌≡◌, ℕ, zero, suc, List, [], ◌∷◌, ◌++◌, map, length, Some, None, Option}
+use Rattle.std.specs.Prelude.{◌≡◌, ℕ, suc, List, [], ◌∷◌, ◌++◌, map, length, Some, None, Option}
 use Rattle.book.specs.Answers.{Answer, granted, refused, no}
 use Rattle.book.specs.Rules.{Production}
 use Rattle.source.specs.Streams.{Token, Stream, clean}

@@ -1,7 +1,6 @@
 -- What the theory of reading takes of tables: states with kernels, the action of each state at each symbol, and the facts that tie them to a book.
-use Rattle.std.specs.Prelude.{◌≡◌, ℕ, Bool, true, cond, ltb, ◌↔◌, List, [], get_or, Some, None, Option}
+use Rattle.std.specs.Prelude.{◌≡◌, ℕ, Bool, true, ◌↔◌, List, [], Some, None, Option}
 use Rattle.book.specs.Rules.{Production}
-use Rattle.grammar.specs.Sets.{symbol_count}
 use Rattle.grammar.specs.Meaning.{rule_of, InBook, LeftmostFollower, ItemSet, after, Closed, Expanded, Next, Move, shifts, Applies}
 use Rattle.grammar.specs.Build.{Act, nothing, accept, shift, reduce, conflict}
 use Rattle.grammar.specs.Laws.{move_of}

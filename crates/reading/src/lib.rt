@@ -1,4 +1,6 @@
 // Reading: the reader, and its laws.
+#![tactic(auto)]
+
 pub mod outcomes;
 pub mod piles;
 pub mod runs;

@@ -4,4 +4,4 @@ use Rattle.reading.proofs.Built.{granted_useful, rows_read_well, rows_answer, bu
 
 -- src/lib.rt:27:1
 pub returns : goal.returns
-returns c = (rows_faithful, granted_useful, rows_read_well, rows_answer, build_and_read)
+returns c = (record { rows_faithful = rows_faithful; granted_useful = granted_useful; rows_read_well = rows_read_well; rows_answer = rows_answer; build_and_read = build_and_read })

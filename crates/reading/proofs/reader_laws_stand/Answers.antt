@@ -4,4 +4,4 @@ use Rattle.reading.proofs.Complete.{complete, unique}
 
 -- src/lib.rt:7:1
 pub returns : goal.returns
-returns c = (sound, complete, unique)
+returns c = (record { sound_reader = sound; complete_reader = complete; unambiguous = unique })

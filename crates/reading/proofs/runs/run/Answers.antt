@@ -64,7 +64,7 @@ loop-verdict-smaller g c =
     let src = g.S.Source.means l.source in
     let p = l.progress in
     let same = turn_as rules rows cap s src.ending (length l.steps) (stack_of l.stacks) (pending_of l.stacks) src.tokens p.words p.place (written_in p.steps l.steps) (ap (λ (t : Stream). t.ending) l.invariant.2) l.invariant.5 in
-    let h = going_falls rules rows cap s l.invariant.1 (sym (c.in-default.ensures.moved ∙ same)) in
+    let h = going_falls rules rows cap s l.invariant.1 (sym (c.in_default.ensures.moved ∙ same)) in
     h
 
 pub loop-verdict-preserved : goal.loop-verdict-preserved
@@ -77,7 +77,7 @@ loop-verdict-preserved g c =
     let src = g.S.Source.means l.source in
     let p = l.progress in
     let q = c.turn.new.progress in
-    let said = c.in-default.ensures in
+    let said = c.in_default.ensures in
     let same = turn_as rules rows cap s src.ending (length l.steps) (stack_of l.stacks) (pending_of l.stacks) src.tokens p.words p.place (written_in p.steps l.steps) (ap (λ (t : Stream). t.ending) l.invariant.2) l.invariant.5 in (
       said.sized,
       going_on rules rows cap s l.invariant.1 (sym (said.moved ∙ same)),

@@ -36,9 +36,9 @@ returns c =
     let x : SpannedSymbol = record { sym_code = (rule_of rules c.args.rule).lhs; first_word = f; word_count = w } in
     let pends : pending_of c.wait-2.new.self ≡ x ∷ symbol_of c.args.symbol ∷ pending_of st =
     c.wait-2.ensures.pending
-    ∙ ap₂ (λ k l. record { sym_code = k; first_word = f; word_count = w } ∷ l) c.left-of.ensures (c.wait.ensures.pending ∙ ap (λ l. symbol_of c.args.symbol ∷ l) c.covered-first.ensures.pending) in
+    ∙ ap₂ (λ k l. record { sym_code = k; first_word = f; word_count = w } ∷ l) c.left_of.ensures (c.wait.ensures.pending ∙ ap (λ l. symbol_of c.args.symbol ∷ l) c.covered-first.ensures.pending) in
     let covers : covered (length (rule_of rules c.args.rule).rhs) (stack_of st) 0 0 ≡ (stack_of c.covered-first.new.self, f, w) =
-    ap (λ l. covered (length l) (stack_of st) 0 0) (sym c.right-of.ensures) ∙ c.covered-first.ensures.span in
+    ap (λ l. covered (length l) (stack_of st) 0 0) (sym c.right_of.ensures) ∙ c.covered-first.ensures.span in
     record {
       moved = λ next action ending ws.
           ap₂ (λ ps xs. on ps xs ws p.words p.place (written_in (p.steps + 1) (set steps p.steps s))) (c.wait-2.ensures.stack ∙ c.wait.ensures.stack) pends

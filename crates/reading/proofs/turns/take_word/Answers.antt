@@ -5,8 +5,8 @@ use Rattle.reading.specs.Reading.{SpannedSymbol, on}
 use Rattle.reading.proofs.Turning.{one_less, taken_long, taken_word}
 use Rattle.reading.proofs.turns.take_word.Goals as goal
 
-pub returns-then-first-ge-MOST-WORDS : goal.returns-then-first-ge-MOST-WORDS
-returns-then-first-ge-MOST-WORDS g c =
+pub returns-then-first-ge-MOST_WORDS : goal.returns-then-first-ge-MOST_WORDS
+returns-then-first-ge-MOST_WORDS g c =
     let s = g.S.Source.means c.args.source.now in
     let p = c.args.progress.now in
     let t : Token = record { symbol = c.in-Word.code; position = c.in-Word.place } in
@@ -17,8 +17,8 @@ returns-then-first-ge-MOST-WORDS g c =
       sized = c.requires.sized;
     }
 
-pub returns-else-first-ge-MOST-WORDS : goal.returns-else-first-ge-MOST-WORDS
-returns-else-first-ge-MOST-WORDS g c =
+pub returns-else-first-ge-MOST_WORDS : goal.returns-else-first-ge-MOST_WORDS
+returns-else-first-ge-MOST_WORDS g c =
     let s = g.S.Source.means c.args.source.now in
     let rest = g.S.Source.means c.take.new.self in
     let p = c.args.progress.now in

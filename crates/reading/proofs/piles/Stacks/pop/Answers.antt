@@ -4,8 +4,8 @@ use Rattle.reading.specs.Reading.{covered}
 use Rattle.reading.proofs.Downs.{down_pop}
 use Rattle.reading.proofs.piles.Stacks.pop.Goals as goal
 
-pub overflow-add-result : goal.overflow-add-result
-overflow-add-result c =
+pub overflow_add-result : goal.overflow_add-result
+overflow_add-result c =
     let s = c.args.self.now in
     let array : length s.stacked ≡ 1001 = search rules in
     let e = down_pop stacked_of s.stacked s.depth (record { symbol = record { code = 0; first = 0; width = 0 }; state = 0 }) (omega arith) (omega (arith, array, c.requires.sized.deep)) in
