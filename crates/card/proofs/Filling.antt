@@ -1,5 +1,5 @@
 -- Filled tables belong to the rules, and a build leaves what it should.
-use Rattle.std.proofs.Common.{◌≡◌, Bool, true, false, ◌&&◌, leb, List, [], length, is_ok, Ok, Err, Result, sym, ap, ◌∙◌}
+use Rattle.std.proofs.Common.{◌≡◌, Bool, true, ◌&&◌, leb, List, [], length, is_ok, Ok, Err, Result, sym, ap, ◌∙◌}
 use Rattle.std.proofs.lemmas.Bool.{false≢true, and_parts, leb-true, le-ltb}
 use Rattle.book.specs.declared.books.Book.{Book}
 use Rattle.book.specs.Answers.{Answer, granted, no, said, said_of, refuse_if, and_then, leaves}

@@ -1,9 +1,9 @@
 -- The promise of a read, after every service.
-use Rattle.std.proofs.Common.{◌≡◌, ℕ, Bool, true, false, ◌&&◌, leb, List, [], ◌∷◌, length, is_some, Some, None, Option, unwrap_or, sym, refl, ap, ◌∙◌, subst}
+use Rattle.std.proofs.Common.{◌≡◌, ℕ, true, ◌&&◌, leb, List, [], ◌∷◌, length, is_some, Some, None, Option, unwrap_or, sym, refl, ap, ◌∙◌, subst}
 use Rattle.std.proofs.lemmas.Bool.{false≢true, and_parts}
 use Rattle.book.specs.Answers.{Answer, granted, refused, leaves}
 use Rattle.book.specs.Files.{load_says}
-use Rattle.book.specs.Rules.{Production, enter_says, strike_says, all_bounded, distinct, is_well_formed}
+use Rattle.book.specs.Rules.{Production, enter_says, strike_says, all_bounded, distinct}
 use Rattle.book.specs.Symbols.{most_rules}
 use Rattle.source.specs.Streams.{Stream, all_terminals}
 use Rattle.grammar.specs.Build.{Act, build_says}
@@ -14,7 +14,7 @@ use Rattle.reading.specs.Reading.{accepted, ReadAnswer, codes_of}
 use Rattle.reading.proofs.Built.{build_and_read}
 use Rattle.card.specs.declared.card.Card.{Card}
 use Rattle.card.specs.Cards.{model_of}
-use Rattle.card.specs.Models.{Model, fresh, unbuilt, built_with}
+use Rattle.card.specs.Models.{Model, unbuilt, built_with}
 use Rattle.card.specs.Histories.{Call, calls_load, calls_enter, calls_strike, calls_build, calls_read, after}
 use Rattle.card.specs.Wanting.{unread, read_of, read_on}
 use Rattle.card.proofs.Marks.{is_grant}

@@ -31,7 +31,7 @@ returns g c =
     let card = c.args.self.now in
     let s = g.S.Source.means c.args.source.now in
     let room = length c.args.list.now in
-    let a = answer_of c.read-by.result c.read-by.new.steps in
+    let a = answer_of c.read_by.result c.read_by.new.steps in
     let says : read_on (model_of card) room s ≡ Some a = search rules in
     record {
       answer = says;
