@@ -1,4 +1,6 @@
 // Reports: the texts of answers, written into a lent buffer, byte for byte.
+#![tactic(auto)]
+
 mod lines;
 mod numbers;
 pub mod reports;

@@ -7,15 +7,15 @@ use Rattle.report.proofs.Putting.{puts_same, puts_then}
 use Rattle.report.proofs.Sizes.{fields_within}
 use Rattle.report.proofs.lines.put_fields.Goals as goal
 
-pub put-field-end-requires : goal.put-field-end-requires
-put-field-end-requires c =
+pub put_field-end-requires : goal.put_field-end-requires
+put_field-end-requires c =
     let i = c.loop-field.field-index in
     let more = length_joined_more field_text c.args.fields.now i 0 c.loop-field-test.true in
     omega (arith, fields_within c.args.fields.now (i + 1), more, c.loop-field.invariant.next, c.loop-field.auto.out, c.requires)
 
 pub loop-field-preserved : goal.loop-field-preserved
 loop-field-preserved c =
-    puts_more field_text c.args.fields.now c.loop-field.field-index 0 _ _ _ _ _ _ c.loop-field-test.true c.loop-field.invariant c.put-field-end.ensures
+    puts_more field_text c.args.fields.now c.loop-field.field-index 0 _ _ _ _ _ _ c.loop-field-test.true c.loop-field.invariant c.put_field-end.ensures
 
 pub put-requires : goal.put-requires
 put-requires c =

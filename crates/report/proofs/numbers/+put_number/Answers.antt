@@ -10,18 +10,18 @@ put-requires t c = omega (arith, length_digit c.args.n c.if-n-lt10.true)
 pub returns-then-n-lt10 : goal.returns-then-n-lt10
 returns-then-n-lt10 t c = puts_same _ _ _ _ _ _ (one_digit c.args.n c.if-n-lt10.true) c.put.ensures
 
-pub put-number-next-requires : goal.put-number-next-requires
-put-number-next-requires t c =
+pub put_number-next-requires : goal.put_number-next-requires
+put_number-next-requires t c =
     let step = length_step c.args.n c.if-n-lt10.false (omega arith) in
     (search rules, omega (arith, step))
 
 pub put-requires-2 : goal.put-requires-2
 put-requires-2 t c =
     let step = length_step c.args.n c.if-n-lt10.false (omega arith) in
-    omega (arith, step, c.put-number-next.ensures.next, c.put-number-next.auto.out)
+    omega (arith, step, c.put_number-next.ensures.next, c.put_number-next.auto.out)
 
 pub returns : goal.returns
 returns t c =
     let n = c.args.n in
     puts_same _ _ _ _ _ _ (sym (decimal_step n c.if-n-lt10.false (omega arith)))
-    (puts_then (decimal (n / 10)) ((48 + n % 10) ∷ []) _ _ _ _ _ _ c.put-number-next.ensures c.put-2.ensures)
+    (puts_then (decimal (n / 10)) ((48 + n % 10) ∷ []) _ _ _ _ _ _ c.put_number-next.ensures c.put-2.ensures)

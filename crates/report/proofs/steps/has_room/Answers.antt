@@ -5,16 +5,16 @@ use Rattle.report.proofs.steps.has_room.Goals as goal
 pub returns-then-left-size : goal.returns-then-left-size
 returns-then-left-size c =
     record {
-      fits = room_short c.args.steps.now c.loop-step.step-index c.args.room c.loop-step.left c.step-size-size.result
-          c.loop-step-test.true c.loop-step.invariant.0 c.step-size-size.ensures.size c.if-left-size.true;
-      enough = λ h. absurd (omega (arith, c.loop-step.invariant.1, c.step-size-size.ensures.few, c.if-left-size.true, c.loop-step-test.true));
+      fits = room_short c.args.steps.now c.loop-step.step-index c.args.room c.loop-step.left c.step_size-size.result
+          c.loop-step-test.true c.loop-step.invariant.0 c.step_size-size.ensures.size c.if-left-size.true;
+      enough = λ h. absurd (omega (arith, c.loop-step.invariant.1, c.step_size-size.ensures.few, c.if-left-size.true, c.loop-step-test.true));
     }
 
 pub loop-step-preserved : goal.loop-step-preserved
 loop-step-preserved c = (
-  room_more c.args.steps.now c.loop-step.step-index c.args.room c.loop-step.left c.step-size-size.result
-      c.loop-step-test.true c.loop-step.invariant.0 c.step-size-size.ensures.size c.if-left-size.false,
-  omega (arith, c.loop-step.invariant.1, c.step-size-size.ensures.few),
+  room_more c.args.steps.now c.loop-step.step-index c.args.room c.loop-step.left c.step_size-size.result
+      c.loop-step-test.true c.loop-step.invariant.0 c.step_size-size.ensures.size c.if-left-size.false,
+  omega (arith, c.loop-step.invariant.1, c.step_size-size.ensures.few),
 )
 
 pub returns : goal.returns

@@ -4,14 +4,14 @@ use Rattle.report.proofs.Sizes.{length_step_line}
 use Rattle.report.proofs.Putting.{puts_then}
 use Rattle.report.proofs.steps.put_step.Goals as goal
 
-pub put-number-next-requires : goal.put-number-next-requires
-put-number-next-requires c = omega (arith, c.requires, length_step_line c.args.step.now)
+pub put_number-next-requires : goal.put_number-next-requires
+put_number-next-requires c = omega (arith, c.requires, length_step_line c.args.step.now)
 
-pub put-fields-requires : goal.put-fields-requires
-put-fields-requires c =
-    omega (arith, c.requires, length_step_line c.args.step.now, c.put-number-next.ensures.next, c.put-number-next.auto.out)
+pub put_fields-requires : goal.put_fields-requires
+put_fields-requires c =
+    omega (arith, c.requires, length_step_line c.args.step.now, c.put_number-next.ensures.next, c.put_number-next.auto.out)
 
 pub returns : goal.returns
 returns c =
     let step = c.args.step.now in
-    puts_then (decimal step.rule) (fields_text (step.first ∷ step.width ∷ [])) _ _ _ _ _ _ c.put-number-next.ensures c.put-fields.ensures
+    puts_then (decimal step.rule) (fields_text (step.first ∷ step.width ∷ [])) _ _ _ _ _ _ c.put_number-next.ensures c.put_fields.ensures

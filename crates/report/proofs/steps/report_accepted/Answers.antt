@@ -6,7 +6,7 @@ use Rattle.report.specs.Texts.{accepted_text}
 use Rattle.report.proofs.Accepting.{front_few, length_accepted, puts_accepted}
 use Rattle.report.proofs.Reporting.{reports_short, reports_all}
 use Rattle.report.proofs.steps.report_accepted.Goals as goal
-use Rattle.report.proofs.steps.report_accepted.Goals.{then-out-size-via-then-out-size, then-out-size-via-else-out-size+then-not-has-room}
+use Rattle.report.proofs.steps.report_accepted.Goals.{then-out-size-via-then-out-size, then-out-size-via-else-out-size+then-not-has_room}
 
 pub returns-then-out-size : goal.returns-then-out-size
 returns-then-out-size c =
@@ -14,14 +14,14 @@ returns-then-out-size c =
     let size = length_accepted c.args.steps c.args.words c.args.list.now c.front-written.result.now c.front-written.ensures in
     let short : length c.args.out.now < length text =
     elim c.then-out-size.branch [
-      | then-out-size-via-then-out-size w ↦ omega (arith, size, w.if-out-size.true, c.fields-size.ensures.size)
-      | then-out-size-via-else-out-size+then-not-has-room w ↦ omega (arith, size, leb-false _ _ (sym w.if-not-has-room.ensures.fits), w.if-out-size.false, c.fields-size.ensures.size)
+      | then-out-size-via-then-out-size w ↦ omega (arith, size, w.if-out-size.true, c.fields_size.ensures.size)
+      | then-out-size-via-else-out-size+then-not-has_room w ↦ omega (arith, size, leb-false _ _ (sym w.if-not-has_room.ensures.fits), w.if-out-size.false, c.fields_size.ensures.size)
     ] in
     let front = front_few c.args.steps c.args.list.now c.front-written.result.now c.front-written.ensures in
     let wanting : read_room (length c.args.list.now) ≤ length c.args.out.now → ⊥ =
     λ h. elim c.then-out-size.branch [
-      | then-out-size-via-then-out-size w ↦ omega (arith, w.if-out-size.true, c.fields-size.ensures.few)
-      | then-out-size-via-else-out-size+then-not-has-room w ↦ false≢true (w.if-not-has-room.ensures.enough (omega (arith, front, w.if-out-size.false, c.fields-size.ensures.few)))
+      | then-out-size-via-then-out-size w ↦ omega (arith, w.if-out-size.true, c.fields_size.ensures.few)
+      | then-out-size-via-else-out-size+then-not-has_room w ↦ false≢true (w.if-not-has_room.ensures.enough (omega (arith, front, w.if-out-size.false, c.fields_size.ensures.few)))
     ] in
     let r = reports_short text c.args.out.now short in
     record { answer = r.0; buffer = r.1; room = λ h. absurd (wanting h) }
@@ -31,9 +31,9 @@ returns c =
     let text = accepted_text c.args.steps c.args.words (written_in c.args.steps c.args.list.now) in
     let size = length_accepted c.args.steps c.args.words c.args.list.now c.front-written.result.now c.front-written.ensures in
     let fits : length text ≤ length c.args.out.now =
-    omega (arith, size, leb-true _ _ (sym c.if-not-has-room.ensures.fits), c.if-out-size.false, c.fields-size.ensures.size) in
+    omega (arith, size, leb-true _ _ (sym c.if-not-has_room.ensures.fits), c.if-out-size.false, c.fields_size.ensures.size) in
     let puts =
     puts_accepted c.args.steps c.args.words c.args.list.now c.front-written.result.now _ _ _ _ _
-    c.front-written.ensures c.put-line-at.ensures c.put-steps.ensures in
-    let r = reports_all text c.args.out.now c.put-steps.new.out c.put-steps.result fits puts in
+    c.front-written.ensures c.put_line-at.ensures c.put_steps.ensures in
+    let r = reports_all text c.args.out.now c.put_steps.new.out c.put_steps.result fits puts in
     record { answer = r.0; buffer = r.1; room = λ _. refl }
