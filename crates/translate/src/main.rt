@@ -1,4 +1,6 @@
 // translate: reads the book `book.dat` and the tape `line.dat`, and prints the report of the read, or of what was refused before it.
+#![tactic(auto)]
+
 #[cfg(test)]
 mod tests;
 mod translations;

@@ -3,8 +3,8 @@ use Rattle.std.proofs.lemmas.Bool.{false≢true}
 use Rattle.translate.proofs.Telling.{within_room}
 use Rattle.translate.proofs.print.Goals as goal
 
-pub slice-bounds-write-all-end : goal.slice-bounds-write-all-end
-slice-bounds-write-all-end c =
+pub slice_bounds-write_all-end : goal.slice_bounds-write_all-end
+slice_bounds-write_all-end c =
     let fits : c.in-Ok.size ≤ length c.translate.new.out = omega (arith, within_room _ _ _ c.in-Ok.ensures.answer) in
     search rules
 

@@ -14,11 +14,11 @@ returns-in-Ok c =
     let rules = (model_of c.args.card.now).held_rules in
     let told =
     goes (build_says lslr rules) (refused_text (codes "build")) (built_with rules) (λ m. told_tape m c.args.tape.now) (unbuilt rules)
-    (model_of c.build-lslr.new.card) c.in-Ok.ensures.answer c.in-Ok.ensures.model in
+    (model_of c.build_lslr.new.card) c.in-Ok.ensures.answer c.in-Ok.ensures.model in
     record {
-      answer = says_as _ _ _ _ told c.read-tape.ensures.answer;
-      buffer = leaves_as _ _ _ _ told c.read-tape.ensures.buffer;
-      room = λ h. c.read-tape.ensures.room (omega arith);
+      answer = says_as _ _ _ _ told c.read_tape.ensures.answer;
+      buffer = leaves_as _ _ _ _ told c.read_tape.ensures.buffer;
+      room = λ h. c.read_tape.ensures.room (omega arith);
     }
 
 pub returns-in-Err : goal.returns-in-Err
@@ -28,7 +28,7 @@ returns-in-Err c =
     ends (build_says lslr rules) (refused_text (codes "build")) (λ rows. told_tape (built_with rules rows) c.args.tape.now)
     (build_refusal c.in-Err.error) c.in-Err.ensures.answer in
     record {
-      answer = says_as _ _ _ _ told c.report-build.ensures.answer;
-      buffer = leaves_as _ _ _ _ told c.report-build.ensures.buffer;
-      room = λ h. c.report-build.ensures.room (omega arith);
+      answer = says_as _ _ _ _ told c.report_build.ensures.answer;
+      buffer = leaves_as _ _ _ _ told c.report_build.ensures.buffer;
+      room = λ h. c.report_build.ensures.room (omega arith);
     }

@@ -10,7 +10,7 @@ returns g c =
     c.read-outcome.result c.read-outcome.new.list c.read-outcome.ensures.answer
     (omega (arith, c.read-outcome.ensures.within, c.read-outcome.auto.list)) in
     record {
-      answer = says_as _ _ _ _ told c.report-read.ensures.answer;
-      buffer = leaves_as _ _ _ _ told c.report-read.ensures.buffer;
-      room = λ h. c.report-read.ensures.room (omega arith);
+      answer = says_as _ _ _ _ told c.report_read.ensures.answer;
+      buffer = leaves_as _ _ _ _ told c.report_read.ensures.buffer;
+      room = λ h. c.report_read.ensures.room (omega arith);
     }
