@@ -1,5 +1,7 @@
 // revise OLD SCRIPT NEW: a setter's change to a rule-book file, start to end.
 // Loads OLD, carries out the script's steps, saves NEW, loads it back and lists its rules.
+#![tactic(auto)]
+
 mod changes;
 mod files;
 mod lines;

@@ -8,7 +8,7 @@ use Rattle.revise.specs.Lines.{save_line}
 use Rattle.revise.specs.Saves.{most_bytes, saved_file}
 use Rattle.revise.proofs.Buffers.{saved_front}
 use Rattle.revise.proofs.files.save.Goals as goal
-use Rattle.revise.proofs.files.save.Goals.{in-Ok+in-ok-from-slice, in-Err}
+use Rattle.revise.proofs.files.save.Goals.{in-Ok+in_ok-from_slice-in-Ok, in-Err}
 
 pub returns : goal.returns
 returns c =
@@ -18,13 +18,13 @@ returns c =
     let given : Answer ℕ → _ = λ a. leaves a (λ _. Some (file_of rules)) None in
     let file : option_map vec_items c.match-outcome.file ≡ saved_file rules =
     elim c.match-outcome.branch [
-      | in-Ok+in-ok-from-slice w ↦
+      | in-Ok+in_ok-from_slice-in-Ok w ↦
           (let size = w.in-Ok.size in
           let same : size - 0 ≡ size = omega arith in
           let grants : granted size ≡ save_says rules most_bytes = ap (said save_refusal) (sym w.in-Ok.is) ∙ answer in
-          let front : vec_items w.in-ok-from-slice.field-0 ≡ file_of rules =
-          w.in-ok-from-slice.ensures.items ∙ ap (λ k. take k out) same ∙ ap (take size) c.save-outcome.ensures.buffer ∙ saved_front rules (replicate most_bytes 0) size grants in
+          let front : vec_items w.in_ok-from_slice-in-Ok.field-0 ≡ file_of rules =
+          w.in_ok-from_slice-in-Ok.ensures.items ∙ ap (λ k. take k out) same ∙ ap (take size) c.save-outcome.ensures.buffer ∙ saved_front rules (replicate most_bytes 0) size grants in
           ap (option_map vec_items) w.file-is ∙ ap Some front ∙ ap given grants)
       | in-Err w ↦ ap (option_map vec_items) w.file-is ∙ ap given (ap (said save_refusal) (sym w.in-Err.is) ∙ answer)
     ] in
-    record { file = file; line = c.in-ok-line.ensures ∙ ap (save_line c.args.name.now) answer }
+    record { file = file; line = c.in_ok-line.ensures ∙ ap (save_line c.args.name.now) answer }

@@ -9,10 +9,10 @@ use Rattle.revise.proofs.lines.listing.Goals as goal
 pub loop-rule-preserved : goal.loop-rule-preserved
 loop-rule-preserved c =
     let n = c.loop-rule.number in
-    let line = c.as-str.ensures.value ∙ c.in-ok-line.ensures.ok
-    ∙ ap (λ bs. decimal n ++ (codes ": " ++ (bs ++ 10 ∷ []))) (c.in-ok-sides.ensures ∙ ap₂ (λ l ws. sides_text (l ⟶ ws)) c.left.ensures c.right.ensures.value) in (
+    let line = c.as_str.ensures.value ∙ c.in_ok-line.ensures.ok
+    ∙ ap (λ bs. decimal n ++ (codes ": " ++ (bs ++ 10 ∷ []))) (c.in_ok-sides.ensures ∙ ap₂ (λ l ws. sides_text (l ⟶ ws)) c.left.ensures c.right.ensures.value) in (
       omega arith,
-      report_more _ c.as-str.result.now _ _ _ _ c.in-ok-push-str.ensures.bytes
+      report_more _ c.as_str.result.now _ _ _ _ c.in_ok-push_str.ensures.bytes
           (list_step c.rules-rules.result.now c.loop-rule.rule-index n c.rule-item.result _ c.loop-rule-test.true c.rule-item.is line) c.loop-rule.invariant.1,
     )
 

@@ -15,6 +15,6 @@ returns-in-Count c = made_as _ c.format-in-Count.ensures.ok (ap load_text (sym c
 pub returns-in-Trailing : goal.returns-in-Trailing
 returns-in-Trailing c = made_as _ c.format-in-Trailing.ensures.ok (ap load_text (sym c.in-Trailing.is))
 
-pub returns-in-ok-cause : goal.returns-in-ok-cause
-returns-in-ok-cause c =
-    made_as _ c.format-in-Enter.ensures.ok (ap (enter_at_text c.in-Enter.at) c.in-ok-cause.ensures ∙ ap load_text (sym c.in-Enter.is))
+pub returns-in_ok-cause-in-Enter : goal.returns-in_ok-cause-in-Enter
+returns-in_ok-cause-in-Enter c =
+    made_as _ c.format-in-Enter.ensures.ok (ap (enter_at_text c.in-Enter.at) c.in_ok-cause-in-Enter.ensures ∙ ap load_text (sym c.in-Enter.is))

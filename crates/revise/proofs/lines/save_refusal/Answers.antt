@@ -10,4 +10,4 @@ text : (e : SaveError) → codes "20, the buffer is too short" ≡ refusal_text 
 text Short = refl
 
 pub returns : goal.returns
-returns c = made_as _ c.from-str.ensures.ok (text c.args.error)
+returns c = made_as _ c.from_str.ensures.ok (text c.args.error)

@@ -10,4 +10,4 @@ text : (e : StrikeError) → codes "6, there is no rule of that number" ≡ refu
 text Missing = refl
 
 pub returns : goal.returns
-returns c = made_as _ c.from-str.ensures.ok (text c.args.error)
+returns c = made_as _ c.from_str.ensures.ok (text c.args.error)

@@ -9,13 +9,13 @@ returns c =
     let old = c.args.bytes.now in
     let steps = c.args.script.now in
     let rules0 = rules_of c.load.new.book in
-    let rules1 = rules_of c.run-script.new.book in
-    let first = c.in-ok-loaded.ensures.rules ∙ ap (λ rs. loaded rs old) c.new-book.ensures.rules in
-    let ok = sym c.in-ok-loaded.ensures.ok ∙ c.if-not-loaded.false in
-    let last = c.in-ok-steps.ensures.rules in
-    let saved = c.in-ok-saved.ensures.file in
+    let rules1 = rules_of c.run_script.new.book in
+    let first = c.in_ok-loaded.ensures.rules ∙ ap (λ rs. loaded rs old) c.new-book.ensures.rules in
+    let ok = sym c.in_ok-loaded.ensures.ok ∙ c.if-not-loaded.false in
+    let last = c.in_ok-steps.ensures.rules in
+    let saved = c.in_ok-saved.ensures.file in
     record {
       file = new_file old steps rules0 rules1 first ok last _ saved;
       loads = new_loads old steps rules0 rules1 first ok last _ saved;
-      report = reported old steps rules0 rules1 first ok last _ _ _ _ _ _ c.in-ok-loaded.ensures.line c.in-ok-steps.ensures.text c.in-ok-saved.ensures.line c.in-ok-report.ensures.ok;
+      report = reported old steps rules0 rules1 first ok last _ _ _ _ _ _ c.in_ok-loaded.ensures.line c.in_ok-steps.ensures.text c.in_ok-saved.ensures.line c.in_ok-report.ensures.ok;
     }

@@ -9,7 +9,7 @@ pub returns-then-byte-lt48 : goal.returns-then-byte-lt48
 returns-then-byte-lt48 c =
     let xs = c.args.digits.now in
     let b = get_or xs c.loop-byte.byte-index 0 in
-    let some : 0 < length xs = grind (arith, nat_tests, c.if-is-empty.ensures) in
+    let some : 0 < length xs = grind (arith, nat_tests, c.if-is_empty.ensures) in
     let off : (is_digit b && leb (more_digits c.loop-byte.value b) c.args.most) ≡ false = grind (arith, nat_tests) in
     record {
       value = sym (number_step c.args.most c.loop-byte.value xs c.loop-byte.byte-index false c.loop-byte-test.true off) ∙ c.loop-byte.invariant.1 ∙ sym (number_some c.args.most xs some);
@@ -20,7 +20,7 @@ pub returns-then-next-most : goal.returns-then-next-most
 returns-then-next-most c =
     let xs = c.args.digits.now in
     let b = get_or xs c.loop-byte.byte-index 0 in
-    let some : 0 < length xs = grind (arith, nat_tests, c.if-is-empty.ensures) in
+    let some : 0 < length xs = grind (arith, nat_tests, c.if-is_empty.ensures) in
     let off : (is_digit b && leb (more_digits c.loop-byte.value b) c.args.most) ≡ false = grind (arith, nat_tests) in
     record {
       value = sym (number_step c.args.most c.loop-byte.value xs c.loop-byte.byte-index false c.loop-byte-test.true off) ∙ c.loop-byte.invariant.1 ∙ sym (number_some c.args.most xs some);
@@ -37,7 +37,7 @@ loop-byte-preserved c =
 pub returns : goal.returns
 returns c =
     let xs = c.args.digits.now in
-    let some : 0 < length xs = grind (arith, nat_tests, c.if-is-empty.ensures) in
+    let some : 0 < length xs = grind (arith, nat_tests, c.if-is_empty.ensures) in
     record {
       value = sym (at_drop_all (number_from c.args.most c.loop-byte.value) xs c.loop-byte.byte-index c.loop-byte-test.false) ∙ c.loop-byte.invariant.1 ∙ sym (number_some c.args.most xs some);
       bound = c.loop-byte.invariant.0;

@@ -8,6 +8,6 @@ use Rattle.std.proofs.lemmas.Bool.Decides.{Decides-eqb}
 pub returns : goal.returns
 returns c =
     let line = c.args.line.now in
-    let first = after_none (codes "strike ") line (strip_prefix_is Decides-eqb line (codes "strike ") None c.in-default.ensures.cases) in
-    let second = after_none (codes "enter ") line (strip_prefix_is Decides-eqb line (codes "enter ") None c.in-default-strip-prefix.ensures.cases) in
+    let first = after_none (codes "strike ") line (strip_prefix_is Decides-eqb line (codes "strike ") None c.in_default.ensures.cases) in
+    let second = after_none (codes "enter ") line (strip_prefix_is Decides-eqb line (codes "enter ") None c.in_default-strip_prefix.ensures.cases) in
     sym (ap₂ (λ o p. read_after o strike_read (read_after p enter_read None)) first second)
