@@ -1,4 +1,6 @@
 // bench [times]: builds some books, and prints their rules, states and actions; with a word behind it, also how long a build takes.
+#![tactic(auto)]
+
 use book::books::Book;
 use grammar::lookaheads::{LeftmostFollow, Lookahead, SlrIfAdequate};
 use std::time::Instant;
