@@ -1,4 +1,6 @@
 // cases: books with what a build of each answers, under each policy. The books are given as book files.
+#![tactic(auto)]
+
 mod books;
 
 use book::books::Book;
