@@ -1,4 +1,6 @@
 // lines: lines read by known books, limits, and a service of many calls.
+#![tactic(auto)]
+
 mod answers;
 mod books;
 mod builds;
