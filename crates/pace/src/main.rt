@@ -1,4 +1,6 @@
 // pace [times]: reads long lines, and prints what came of it; with a word behind it, how fast they are read.
+#![tactic(auto)]
+
 mod reads;
 
 use std::{env, io};
