@@ -1,10 +1,9 @@
 -- The test of the rules that a book can have is true of just those.
-use Rattle.std.proofs.Common.{◌≡◌, ℕ, zero, suc, ◌<◌, ◌≤◌, Bool, true, false, not, ◌&&◌, eqb, leb, List, [], ◌∷◌, length, get_or, sym, refl, subst, ap₂, inl, inr, arith}
-use Rattle.std.proofs.lemmas.Slice.Eq.{bytes_eq-Decides}
-use Rattle.std.proofs.lemmas.Bool.{and_parts, and_from, or_left, or_right, or_cases, both_ways, not-true, not_from_false, leb-true, le-leb, eqb-true, eq-eqb}
-use Rattle.std.specs.Str.{bytes_eq}
+use Rattle.std.proofs.Common.{◌≡◌, ℕ, zero, suc, ◌<◌, ◌≤◌, Bool, true, false, not, ◌&&◌, leb, List, [], ◌∷◌, length, get_or, sym, refl, subst, inl, inr, arith}
+use Rattle.std.proofs.lemmas.Bool.{and_parts, and_from, or_left, or_right, or_cases, both_ways, not-true, not_from_false, leb-true, le-leb}
 use Rattle.book.specs.Symbols.{first_nonterminal, last_symbol, longest_right, within, is_nonterminal, is_symbol}
-use Rattle.book.specs.Rules.{Production, ◌⟶◌, Bounded, rule_in, all_symbols, is_bounded, all_bounded, distinct, same_rule, holds, TestIsExact}
+use Rattle.book.specs.Rules.{Production, Bounded, rule_in, all_symbols, is_bounded, all_bounded, distinct, same_rule, holds, TestIsExact}
+use Rattle.book.proofs.Equal.{same_equal, same_self}
 use Rattle.book.proofs.Admission.{few, bounded, apart, well_formed}
 
 within_parts : (low high x : ℕ) → within low high x ≡ true → (low ≤ x) × (x ≤ high)
@@ -45,14 +44,6 @@ bounded_from [] f = refl
 bounded_from (p ∷ ps) f = and_from _ _ (bounded_rule p (f 0 (omega arith))) (bounded_from ps (λ k h. f (suc k) (omega arith)))
 
 -- Distinct rules.
-
-same_equal : (p q : Production) → same_rule p q ≡ true → p ≡ q
-same_equal p q e =
-    let s = and_parts (eqb p.lhs q.lhs) (bytes_eq p.rhs q.rhs) e in
-    ap₂ ◌⟶◌ (eqb-true p.lhs q.lhs s.0) ((bytes_eq-Decides p.rhs q.rhs).0 s.1)
-
-same_self : (p : Production) → same_rule p p ≡ true
-same_self p = and_from _ _ (eq-eqb p.lhs p.lhs refl) ((bytes_eq-Decides p.rhs p.rhs).1 refl)
 
 holds_at : (ps : List Production) (p : Production) (j : ℕ) → j < length ps → p ≡ rule_in ps j → holds ps p ≡ true
 holds_at [] p j h e = absurd (omega arith)

@@ -1,4 +1,5 @@
 pub mod Codes
+pub mod Equal
 pub mod Places
 pub mod Records
 pub mod Loads

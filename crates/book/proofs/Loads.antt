@@ -7,14 +7,6 @@ use Rattle.book.specs.Symbols.{within, longest_right}
 use Rattle.book.specs.Rules.{Production, ◌⟶◌, enter_says}
 use Rattle.book.specs.Files.{front_says, rule_at, body_says, closing_says, closing_kind, record_says, record_leaves, width, load_from}
 
--- the bytes that the byte reader grants
-pub front_granted : (xs : List ℕ) (n place : ℕ) (ys : List ℕ) → granted ys ≡ front_says xs n place → (ys ≡ take n xs) × (n ≤ length xs)
-front_granted xs n place ys e = go (ltb (length xs) n) refl e
-  where
-    go : (t : Bool) → ltb (length xs) n ≡ t → granted ys ≡ refuse_if t (no 16 (place ∷ [])) (granted (take n xs)) → (ys ≡ take n xs) × (n ≤ length xs)
-    go true f e = let z : ◌≡◌ {A = ℕ} 0 1 = cc in absurd (omega arith)
-    go false f e = (cc, ltb-false (length xs) n f)
-
 -- a record whose body is there enters its rule
 pub rule_record : (rules : List Production) (place : ℕ) (xs body rest right : List ℕ) → body ≡ drop 1 xs → rest ≡ drop 1 body → 0 < length xs → 0 < length body
     → (get_or xs 0 0 ≡ closing_kind → ⊥) → 1 ≤ get_or xs 0 0 → get_or xs 0 0 ≤ longest_right → granted right ≡ front_says rest (get_or xs 0 0) place
@@ -27,12 +19,6 @@ rule_record rules place (k ∷ l ∷ ws) body rest right b r some more ne low hi
     ∙ ap (λ t. refuse_if (not t) (no 15 (place ∷ [])) (body_says rules place k (l ∷ ws))) (and_from _ _ (le-leb 1 k low) (le-leb k longest_right high))
     ∙ ap (λ a. and_then a (λ ys. rule_at place (l ⟶ ys) (enter_says rules (l ⟶ ys)))) found
     ∙ ap (λ ys. rule_at place (get_or ys 0 0 ⟶ right) (enter_says rules (get_or ys 0 0 ⟶ right))) (sym b)
-
--- what an enter leaves is what its record leaves
-pub rule_leaves : (a : Answer (Unit {0})) (place : ℕ) (p : Production) (rules : List Production)
-    → leaves a (λ _. rules ++ p ∷ []) rules ≡ leaves (rule_at place p a) (elim [ None ↦ rules | Some q ↦ rules ++ q ∷ [] ]) rules
-rule_leaves (granted x) place p rules = refl
-rule_leaves (refused (no n names)) place p rules = refl
 
 skips : (bytes : List ℕ) (n : ℕ) (rules : List Production) (place : ℕ) → load_from bytes n rules place ≡ load_from (drop n bytes) 0 rules place
 skips [] zero rules place = refl

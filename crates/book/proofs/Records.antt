@@ -1,6 +1,7 @@
 -- Files: what is written so far, one record more.
-use Rattle.std.proofs.Common.{◌≡◌, ℕ, ◌+◌, ◌-◌, ◌<◌, ◌≤◌, List, [], ◌∷◌, ◌++◌, length, get_or, take, drop, sym, refl, ap, ◌∙◌, arith, length-append}
-use Rattle.std.specs.List.{flat_map}
+use Rattle.std.proofs.Common.{◌≡◌, ℕ, ◌+◌, ◌-◌, ◌<◌, ◌≤◌, List, [], ◌∷◌, ◌++◌, length, get_or, take, drop, sym, refl, ap, ◌∙◌, arith, length-append, length-take, ◌*◌}
+use Rattle.std.specs.List.{flat_map, sum_by}
+use Rattle.std.proofs.lemmas.List.Sums.{sum_by-cons, sum_by-le}
 use Rattle.std.proofs.lemmas.List.{append-nil, append_assoc, map-append, map_more, drop-drop, take-append-drop}
 use Rattle.book.specs.Files.{record_of, file_of, closing_kind}
 use Rattle.book.specs.Held.{production_of, productions_of}
@@ -14,6 +15,22 @@ records_of rs = flat_map record_of (productions_of rs)
 pub joined_append : (ps qs : List Production) → flat_map record_of (ps ++ qs) ≡ flat_map record_of ps ++ flat_map record_of qs
 joined_append [] qs = refl
 joined_append (p ∷ ps) qs = ap (λ t. record_of p ++ t) (joined_append ps qs) ∙ sym (append_assoc (record_of p) (flat_map record_of ps) (flat_map record_of qs))
+
+-- how long a rule's record is
+abbrev pub record_len : Rule → ℕ
+record_len r = 2 + length (production_of r).rhs
+
+pub record_lens_bound : (rs : List Rule) → sum_by record_len rs ≤ length rs * 8
+record_lens_bound rs = sum_by-le record_len 8 rs (λ k d h. bound (get_or rs k d))
+  where
+    bound : (r : Rule) → record_len r ≤ 8
+    bound r = simp length-take (omega (arith, r.short))
+
+pub record_lens : (rs : List Rule) → sum_by record_len rs ≡ length (records_of rs)
+record_lens [] = refl
+record_lens (r ∷ rs) =
+    let whole = length-append (record_of (production_of r)) (records_of rs) in
+    sum_by-cons record_len r rs ∙ omega (arith, whole, record_lens rs)
 
 pub records_more : (rs : List Rule) (i : ℕ) (r : Rule) → i < length rs → r ≡ get_or rs i r → records_of (take (i + 1) rs) ≡ records_of (take i rs) ++ record_of (production_of r)
 records_more rs i r h e =

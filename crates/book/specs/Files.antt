@@ -58,9 +58,12 @@ record_says rules place (kind ∷ bytes) =
     (refuse_if (not (within 1 longest_right kind)) (no 15 (place ∷ []))
     (body_says rules place kind bytes))
 
--- the rules after a record
+-- the rules after what a record says: with its rule, if it gives one
+abbrev pub rules_after : List Production → Answer (Option Production) → List Production
+rules_after rules said = leaves said (elim [ None ↦ rules | Some p ↦ rules ++ p ∷ [] ]) rules
+
 abbrev pub record_leaves : List Production → ℕ → List ℕ → List Production
-record_leaves rules place bytes = leaves (record_says rules place bytes) (elim [ None ↦ rules | Some p ↦ rules ++ p ∷ [] ]) rules
+record_leaves rules place bytes = rules_after rules (record_says rules place bytes)
 
 abbrev pub width : Production → ℕ
 width p = length (record_of p)

@@ -5,8 +5,6 @@ use Rattle.book.specs.declared.rules.EnterError.{EnterError}
 use Rattle.book.specs.declared.rules.EnterError.TheVariants as enter
 use Rattle.book.specs.declared.files.LoadError.{LoadError}
 use Rattle.book.specs.declared.files.LoadError.TheVariants as load
-use Rattle.book.specs.declared.files.Ended.{Ended}
-use Rattle.book.specs.declared.files.EnterAt.{EnterAt}
 use Rattle.book.specs.declared.files.SaveError.{SaveError}
 use Rattle.book.specs.declared.files.SaveError.TheVariants as save
 use Rattle.book.specs.declared.books.StrikeError.{StrikeError}
@@ -32,19 +30,6 @@ load_refusal (load.Ended place) = no 16 (place ∷ [])
 load_refusal (load.Enter place cause) = no 17 (place ∷ number_of (enter_refusal cause) ∷ [])
 load_refusal (load.Count place) = no 18 (place ∷ [])
 load_refusal (load.Trailing place) = no 19 (place ∷ [])
-
--- the refusals that travel up into a load's
-abbrev pub of_ended : Ended → LoadError
-of_ended e = load.Ended e.place
-
-abbrev pub ended_refusal : Ended → Refusal
-ended_refusal e = load_refusal (of_ended e)
-
-abbrev pub of_enter_at : EnterAt → LoadError
-of_enter_at e = load.Enter e.place e.cause
-
-abbrev pub enter_at_refusal : EnterAt → Refusal
-enter_at_refusal e = load_refusal (of_enter_at e)
 
 abbrev pub save_refusal : SaveError → Refusal
 save_refusal save.Short = no 20 []

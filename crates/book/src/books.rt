@@ -7,6 +7,8 @@ ghost use Rattle.book.specs.Symbols.{most_rules};
 ghost use Rattle.book.specs.Rules.{◌⟶◌, holds, enter_says, entered, strike_says, struck, is_well_formed, Keeps, TestIsExact};
 
 use crate::rules::{EnterError, Rule};
+use std::error::Error;
+use std::fmt;
 
 // How many rules a book has at the most.
 pub const MOST_RULES: usize = 100;
@@ -27,6 +29,22 @@ pub struct Book {
 pub enum StrikeError {
     Missing,
 }
+
+impl fmt::Display for StrikeError {
+    ghost use Rattle.std.specs.Prelude.{Some};
+    ghost use Rattle.book.specs.Refusals.{strike_refusal};
+    ghost use Rattle.book.specs.Texts.{refusal_text};
+
+    ghost output = { λ e. Some (refusal_text (strike_refusal e)) };
+
+    fn fmt<W: fmt::Write>(&self, f: &mut fmt::Formatter<W>) -> fmt::Result {
+        match self {
+            StrikeError::Missing => f.write_str("6, there is no rule of that number"),
+        }
+    }
+}
+
+impl Error for StrikeError {}
 
 impl Book {
     // A book with no rules.
@@ -49,20 +67,7 @@ impl Book {
         ensures list { result.now ≡ take self.now.count.rules self.now.rules }
     {
         let n = self.count.rules.min(MOST_RULES);
-        &self.rules[0..n]
-    }
-
-    // Whether an equal rule is in the book.
-    fn holds(&self, rule: &Rule) -> bool
-        ensures { result ≡ holds (rules_of self.now) (production_of rule.now) }
-    {
-        let rules = self.rules();
-        for held in rules {
-            if held.same(rule) {
-                return true;
-            }
-        }
-        false
+        &self.rules[..n]
     }
 
     // Adds a rule at the end.
@@ -86,7 +91,7 @@ impl Book {
             return Err(EnterError::Full);
         }
         let rule = Rule::new(left, right)?;
-        if self.holds(&rule) {
+        if self.rules().contains(&rule) {
             return Err(EnterError::Duplicate);
         }
         self.push(rule);
@@ -101,7 +106,7 @@ impl Book {
         ensures same { OnErr result (self.new ≡ self.old) }
     {
         let n = self.rules().len();
-        if number < 1 || number > n {
+        if !(1..=n).contains(&number) {
             return Err(StrikeError::Missing);
         }
         self.rules[number - 1..n].rotate_left(1);

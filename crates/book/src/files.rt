@@ -2,21 +2,41 @@
 // Kinds 1 to 6 are rules with that many right symbols; kind 7 closes the file with the number of rules.
 ghost use Rattle.std.specs.Prelude.{◌≡◌, ◌+◌, ◌-◌, ◌^◌, ◌<◌, ◌≤◌, true, [], ◌∷◌, ◌++◌, length, take, drop, IfSome, IfOk, Some, None, OnErr, OnOk};
 ghost use Rattle.book.specs.Answers.{granted, and_then, said, said_of};
-ghost use Rattle.book.specs.Files.{record_of, file_of, save_says, saved_in, front_says, rule_at, closing_says, record_says, record_leaves, width, load_says, loaded, LoadsBack, IsFileOf};
+ghost use Rattle.book.specs.Files.{record_of, file_of, save_says, saved_in, body_says, rules_after, closing_says, record_says, record_leaves, width, load_says, loaded, LoadsBack, IsFileOf};
 ghost use Rattle.book.specs.Held.{production_of, productions_of, rules_of};
-ghost use Rattle.book.specs.Refusals.{save_refusal, load_refusal, ended_refusal, enter_at_refusal, of_ended, of_enter_at};
-ghost use Rattle.book.specs.Rules.{◌⟶◌, enter_says, entered, is_well_formed, Keeps};
+ghost use Rattle.book.specs.Kinds.{Decodes};
+ghost use Rattle.book.specs.Refusals.{save_refusal, load_refusal};
+ghost use Rattle.book.specs.Rules.{is_well_formed, Keeps};
+ghost use Rattle.book.specs.Symbols.{longest_right};
 ghost use Rattle.std.specs.Option.{option_map};
 
 use crate::books::Book;
 use crate::rules::{EnterError, LONGEST_RIGHT, Rule};
+use std::error::Error;
+use std::fmt;
 
-const CLOSING: u8 = 7;
+const CLOSING: usize = 7;
 
 #[derive(Clone, Copy, PartialEq, Debug)]
 pub enum SaveError {
     Short,
 }
+
+impl fmt::Display for SaveError {
+    ghost use Rattle.std.specs.Prelude.{Some};
+    ghost use Rattle.book.specs.Refusals.{save_refusal};
+    ghost use Rattle.book.specs.Texts.{refusal_text};
+
+    ghost output = { λ e. Some (refusal_text (save_refusal e)) };
+
+    fn fmt<W: fmt::Write>(&self, f: &mut fmt::Formatter<W>) -> fmt::Result {
+        match self {
+            SaveError::Short => f.write_str("20, the buffer is too short"),
+        }
+    }
+}
+
+impl Error for SaveError {}
 
 // Each case has the byte index where its record begins or is due; the last, that of the byte past the file.
 #[derive(Clone, Copy, PartialEq, Debug)]
@@ -28,52 +48,46 @@ pub enum LoadError {
     Trailing(usize),
 }
 
-// The byte reader's refusal: the bytes of the record at this place end too early.
-struct Ended {
-    place: usize,
-}
+impl fmt::Display for LoadError {
+    ghost use Rattle.std.specs.Prelude.{Some};
+    ghost use Rattle.book.specs.Texts.{load_text};
 
-// Rule entry's refusal, with the place of the rule's record.
-struct EnterAt {
-    place: usize,
-    cause: EnterError,
-}
+    ghost output = { λ e. Some (load_text e) };
 
-impl From<Ended> for LoadError {
-    ghost from_gives = { λ e r. r ≡ of_ended e };
-
-    fn from(e: Ended) -> LoadError {
-        let Ended { place } = e;
-        LoadError::Ended(place)
+    fn fmt<W: fmt::Write>(&self, f: &mut fmt::Formatter<W>) -> fmt::Result {
+        match self {
+            LoadError::Kind(at) => write!(f, "15 at {at}, no record has that kind"),
+            LoadError::Ended(at) => write!(f, "16 at {at}, the bytes end where a byte is due"),
+            LoadError::Enter(at, cause) => write!(f, "17 at {at}, the rule is refused ({cause})"),
+            LoadError::Count(at) => write!(f, "18 at {at}, the count is wrong"),
+            LoadError::Trailing(at) => write!(f, "19 at {at}, a byte follows the end"),
+        }
     }
 }
 
-impl From<EnterAt> for LoadError {
-    ghost from_gives = { λ e r. r ≡ of_enter_at e };
+impl Error for LoadError {}
 
-    fn from(e: EnterAt) -> LoadError {
-        let EnterAt { place, cause } = e;
-        LoadError::Enter(place, cause)
-    }
+// What a record is, by its first byte: a rule with so many right symbols, or what closes the file.
+enum Kind {
+    Rule(usize),
+    Closing,
 }
 
-// The first n bytes of what is left of a record.
-fn front(bytes: &[u8], n: usize, place: usize) -> Result<&[u8], Ended>
-    ensures { said_of (λ x. x.now) ended_refusal result ≡ front_says bytes.now n place }
-{
-    if bytes.len() < n {
-        return Err(Ended { place });
-    }
-    Ok(&bytes[0..n])
-}
+// No record begins with that byte.
+struct UnknownKind;
 
-// The bytes from a place on.
-fn from_place(bytes: &[u8], place: usize) -> &[u8]
-    requires { place ≤ length bytes.now }
-    ensures value { result.now ≡ drop place bytes.now }
-    ensures len { place + length result.now ≡ length bytes.now }
-{
-    &bytes[place..]
+impl TryFrom<u8> for Kind {
+    type Error = UnknownKind;
+
+    ghost try_from_gives = { Decodes };
+
+    fn try_from(byte: u8) -> Result<Kind, UnknownKind> {
+        match byte as usize {
+            CLOSING => Ok(Kind::Closing),
+            n @ 1..=LONGEST_RIGHT => Ok(Kind::Rule(n)),
+            _ => Err(UnknownKind),
+        }
+    }
 }
 
 // Writes bytes at a place, and answers the place past them.
@@ -105,12 +119,8 @@ impl Book {
     fn file_size(&self) -> usize
         ensures { result ≡ length (file_of (rules_of self.now)) }
     {
-        let rules = self.rules();
-        let mut size = 2;
-        for rule in rules {
-            size += 2 + rule.right().len();
-        }
-        size
+        let records: usize = self.rules().iter().map(|rule| 2 + rule.right().len()).sum();
+        records + 2
     }
 
     // Writes the book's file at the start of a buffer, and answers how many bytes it has.
@@ -127,18 +137,25 @@ impl Book {
         for rule in rules {
             at = put_record(out, at, rule);
         }
-        Ok(put(out, at, &[CLOSING, rules.len() as u8]))
+        Ok(put(out, at, &[CLOSING as u8, rules.len() as u8]))
     }
 
-    // Enters the rule of a record.
-    fn enter_at(&mut self, place: usize, left: u8, right: &[u8]) -> Result<(), EnterAt>
-        ensures answer { said_of (λ _. Some (left ⟶ right.now)) enter_at_refusal result ≡ rule_at place (left ⟶ right.now) (enter_says (rules_of self.old) (left ⟶ right.now)) }
-        ensures rules { rules_of self.new ≡ entered (rules_of self.old) (left ⟶ right.now) }
+    // Enters the rule of a record with this body, and answers how many bytes the record has.
+    fn load_rule(&mut self, body: &[u8], n: usize, place: usize) -> Result<usize, LoadError>
+        requires { n ≤ longest_right }
+        ensures answer { said_of Some load_refusal result ≡ and_then (body_says (rules_of self.old) place n body.now) (λ o. granted (option_map width o)) }
+        ensures rules { rules_of self.new ≡ rules_after (rules_of self.old) (body_says (rules_of self.old) place n body.now) }
+        ensures within { IfOk result (λ w. (0 < w) × (w ≤ length body.now + 1)) }
     {
-        match self.enter(left, right) {
-            Ok(()) => Ok(()),
-            Err(cause) => Err(EnterAt { place, cause }),
-        }
+        let [left, rest @ ..] = body else {
+            return Err(LoadError::Ended(place));
+        };
+        let Some(right) = rest.get(..n) else {
+            return Err(LoadError::Ended(place));
+        };
+        self.enter(*left, right)
+            .map_err(|cause| LoadError::Enter(place, cause))?;
+        Ok(n + 2)
     }
 
     // The body of the closing record is the number of rules, and nothing follows it.
@@ -165,23 +182,14 @@ impl Book {
         ensures rules { rules_of self.new ≡ record_leaves (rules_of self.old) place bytes.now }
         ensures within { IfOk result (λ o. IfSome o (λ w. (0 < w) × (w ≤ length bytes.now))) }
     {
-        let [kind, body @ ..] = bytes else {
+        let [byte, body @ ..] = bytes else {
             return Err(LoadError::Ended(place));
         };
-        if *kind == CLOSING {
-            self.closes(body, place)?;
-            return Ok(None);
+        match Kind::try_from(*byte) {
+            Ok(Kind::Rule(n)) => self.load_rule(body, n, place).map(Some),
+            Ok(Kind::Closing) => self.closes(body, place).map(|_| None),
+            Err(UnknownKind) => Err(LoadError::Kind(place)),
         }
-        let n = *kind as usize;
-        if n < 1 || n > LONGEST_RIGHT {
-            return Err(LoadError::Kind(place));
-        }
-        let [left, rest @ ..] = body else {
-            return Err(LoadError::Ended(place));
-        };
-        let right = front(rest, n, place)?;
-        self.enter_at(place, *left, right)?;
-        Ok(Some(n + 2))
     }
 
     // Enters the rules of a file into an empty book, record by record.
@@ -190,7 +198,7 @@ impl Book {
         ensures { said_of (λ _. rules_of self.new) load_refusal result ≡ load_says bytes.now }
     {
         let mut place = 0;
-        while let Some(width) = self.load_record(from_place(bytes, place), place)? {
+        while let Some(width) = self.load_record(&bytes[place..], place)? {
             place += width;
         }
         Ok(())

@@ -3,22 +3,10 @@ ghost use Rattle.std.specs.Prelude.{◌≡◌, length};
 ghost use Rattle.book.specs.Answers.{said_of};
 ghost use Rattle.book.specs.Held.{production_of};
 ghost use Rattle.book.specs.Refusals.{enter_refusal};
-ghost use Rattle.book.specs.Rules.{first_bad, rule_says, same_rule, ◌⟶◌};
+ghost use Rattle.book.specs.Rules.{rule_says, ◌⟶◌};
 
 use super::{EnterError, LONGEST_RIGHT, Rule};
 use crate::symbols::{FIRST_NONTERMINAL, is_nonterminal, is_symbol};
-
-// The index of the first code that may not stand in a right side.
-fn first_bad(codes: &[u8]) -> Option<usize>
-    ensures { result ≡ first_bad codes.now }
-{
-    for (i, code) in codes.iter().enumerate() {
-        if !is_symbol(*code) {
-            return Some(i);
-        }
-    }
-    None
-}
 
 impl Rule {
     // The rule with these sides, if they keep the bounds.
@@ -29,14 +17,14 @@ impl Rule {
             return Err(EnterError::Left);
         }
         let len = right.len();
-        if len < 1 || len > LONGEST_RIGHT {
+        if !(1..=LONGEST_RIGHT).contains(&len) {
             return Err(EnterError::Length);
         }
-        if let Some(i) = first_bad(right) {
+        if let Some(i) = right.iter().position(|code| !is_symbol(*code)) {
             return Err(EnterError::Code(i));
         }
         let mut codes = [0; LONGEST_RIGHT];
-        codes[0..len].copy_from_slice(right);
+        codes[..len].copy_from_slice(right);
         Ok(Rule {
             left,
             len: len as u8,
@@ -49,7 +37,7 @@ impl Rule {
         Rule {
             left: FIRST_NONTERMINAL,
             len: 1,
-            right: [1; LONGEST_RIGHT],
+            right: [1, 0, 0, 0, 0, 0],
         }
     }
 
@@ -64,13 +52,6 @@ impl Rule {
         ensures len { length result.now ≡ self.now.len }
     {
         let n = self.len as usize;
-        &self.right[0..n]
-    }
-
-    // Whether two rules have the same sides.
-    pub(crate) fn same(&self, other: &Rule) -> bool
-        ensures { result ≡ same_rule (production_of self.now) (production_of other.now) }
-    {
-        (self.left == other.left) & (self.right() == other.right())
+        &self.right[..n]
     }
 }
