@@ -43,7 +43,7 @@ records_terminals p (kind ∷ x ∷ bytes) = go (kind == word_kind) (is_terminal
 pub tape_terminals : (s : State) (bytes : List ℕ) (p : ℕ) → all_terminals (tape_means s bytes p).tokens ≡ true
 tape_terminals Open bytes p = records_terminals p (drop p bytes)
 tape_terminals Ended bytes p = refl
-tape_terminals (Faulted n) bytes p = refl
+tape_terminals (Faulted f) bytes p = refl
 
 pub without_terminals : (k : ℕ) (ts : List Token) → all_terminals ts ≡ true → all_terminals (without k ts) ≡ true
 without_terminals k [] a = refl

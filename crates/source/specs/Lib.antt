@@ -1,6 +1,8 @@
 pub mod Streams
 pub mod Texts
 pub mod Tapes
+pub mod Faults
+pub mod Kinds
 pub mod States
 pub mod Taking
 pub mod Refusals

@@ -10,7 +10,7 @@ pub fn drain<S: Source>(source: &mut S) -> usize
     ensures rest { S.Source.means source.new ≡ ends (S.Source.means source.old).ending }
 {
     let mut count = 0usize;
-    while let Taken::Word { code: _, place: _ } = source.take() {
+    while let Taken::Word { .. } = source.take() {
         count = count.saturating_add(1);
     }
     count

@@ -2,6 +2,7 @@
 #![tactic(auto)]
 
 pub mod drains;
+pub mod faults;
 pub mod lends;
 pub mod skips;
 pub mod sources;

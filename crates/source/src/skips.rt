@@ -45,13 +45,8 @@ impl<S: Source> Source for Skip<S> {
     fn take(&mut self) -> Taken {
         loop {
             match self.below.take() {
-                Taken::Word { code, place } => {
-                    if code != self.code {
-                        return Taken::Word { code, place };
-                    }
-                }
-                Taken::Clean { place } => return Taken::Clean { place },
-                Taken::Fault { number, place } => return Taken::Fault { number, place },
+                Taken::Word { code, .. } if code == self.code => {}
+                taken => return taken,
             }
         }
     }

@@ -4,10 +4,12 @@ ghost use Rattle.source.specs.Streams.{Stream, drawn, remaining, all_terminals};
 ghost use Rattle.source.specs.Taking.{drawn_by};
 
 // What a take answers.
+// Stays one enum: three cases have no shape of Option or Result, and a `Result<Word, Ending>` would take two types more to say the same.
 #[derive(Clone, Copy, PartialEq, Debug)]
 pub enum Taken {
     Word { code: u8, place: usize },
     Clean { place: usize },
+    // Stays a number: a source of a caller's own faults by numbers of its own, for which an enum would have no case.
     Fault { number: u8, place: usize },
 }
 

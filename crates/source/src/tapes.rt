@@ -1,20 +1,46 @@
 // A tape: records of kind 8, a word with its code, until one of kind 9, the end.
-ghost use Rattle.std.specs.Prelude.{◌≡◌, ◌<◌, true, length, drop, is_some};
+ghost use Rattle.std.specs.Prelude.{◌≡◌, IfOk, IfErr, MatchResult};
 ghost use Rattle.book.specs.Answers.{said_of};
+ghost use Rattle.source.specs.Faults.{fault_number};
+ghost use Rattle.source.specs.Kinds.{Decodes};
 ghost use Rattle.source.specs.Laws.{tape_terminals};
 ghost use Rattle.source.specs.Refusals.{tape_refusal};
+ghost use Rattle.source.specs.Streams.{drawn, remaining, ends, fault};
+ghost use Rattle.source.specs.Taking.{drawn_by};
 ghost use Rattle.source.specs.Tapes.{tape_says};
-ghost use Rattle.source.specs.States.{tape_means, head_of};
+ghost use Rattle.source.specs.States.{tape_means};
 
+use crate::faults::Fault;
 use crate::sources::{Source, Taken};
 use crate::texts::MOST_BYTES;
 use book::symbols::is_terminal;
+
+// What a record's first byte says that it is.
+#[derive(Clone, Copy)]
+enum Kind {
+    Word,
+    End,
+}
+
+impl TryFrom<u8> for Kind {
+    type Error = Fault;
+
+    ghost try_from_gives = { Decodes };
+
+    fn try_from(byte: u8) -> Result<Kind, Fault> {
+        match byte {
+            8 => Ok(Kind::Word),
+            9 => Ok(Kind::End),
+            _ => Err(Fault::Kind),
+        }
+    }
+}
 
 #[derive(Clone, Copy)]
 pub enum State {
     Open,
     Ended,
-    Faulted(u8),
+    Faulted(Fault),
 }
 
 #[derive(Clone, Copy, PartialEq, Debug)]
@@ -27,18 +53,6 @@ pub struct Tape<'a> {
     bytes: &'a [u8],
     place: usize,
     state: State,
-}
-
-// The byte at a place, if there is one.
-fn byte_at(bytes: &[u8], place: usize) -> Option<u8>
-    ensures byte { result ≡ head_of (drop place bytes.now) }
-    ensures within { is_some result ≡ true → place < length bytes.now }
-{
-    if place < bytes.len() {
-        Some(bytes[place])
-    } else {
-        None
-    }
 }
 
 impl<'a> Tape<'a> {
@@ -54,6 +68,32 @@ impl<'a> Tape<'a> {
             state: State::Open,
         })
     }
+
+    // Takes the record at the place of an open tape.
+    fn record(&mut self) -> Result<Taken, Fault>
+        requires { self.old.state ≡ State.Open }
+        ensures taken { IfOk result (λ t. drawn_by t ≡ drawn (tape_means self.old.state self.old.bytes.now self.old.place)) }
+        ensures rest { IfOk result (λ _. tape_means self.new.state self.new.bytes.now self.new.place ≡ remaining (tape_means self.old.state self.old.bytes.now self.old.place)) }
+        ensures faulted { IfErr result (λ f. tape_means self.old.state self.old.bytes.now self.old.place ≡ ends (fault (fault_number f) self.old.place)) }
+        ensures place { IfErr result (λ _. self.new.place ≡ self.old.place) }
+    {
+        let place = self.place;
+        let kind = self.bytes.get(place).copied().ok_or(Fault::Short)?;
+        match Kind::try_from(kind)? {
+            Kind::Word => {
+                let code = self.bytes.get(place + 1).copied().ok_or(Fault::Short)?;
+                if !is_terminal(code) {
+                    return Err(Fault::Code);
+                }
+                self.place = place + 2;
+                Ok(Taken::Word { code, place })
+            }
+            Kind::End => {
+                self.state = State::Ended;
+                Ok(Taken::Clean { place })
+            }
+        }
+    }
 }
 
 impl Source for Tape<'_> {
@@ -63,36 +103,16 @@ impl Source for Tape<'_> {
 
     fn take(&mut self) -> Taken {
         let place = self.place;
-        let kind = byte_at(self.bytes, place);
-        match (self.state, kind) {
-            (State::Ended, _) => Taken::Clean { place },
-            (State::Faulted(number), _) => Taken::Fault { number, place },
-            (State::Open, Some(8)) => match byte_at(self.bytes, place + 1) {
-                Some(code) => {
-                    if !is_terminal(code) {
-                        self.state = State::Faulted(3);
-                        return Taken::Fault { number: 3, place };
-                    }
-                    self.place = place + 2;
-                    Taken::Word { code, place }
-                }
-                None => {
-                    self.state = State::Faulted(4);
-                    Taken::Fault { number: 4, place }
-                }
+        let fault = match self.state {
+            State::Ended => return Taken::Clean { place },
+            State::Faulted(fault) => fault,
+            State::Open => match self.record() {
+                Ok(taken) => return taken,
+                Err(fault) => fault,
             },
-            (State::Open, Some(9)) => {
-                self.state = State::Ended;
-                Taken::Clean { place }
-            }
-            (State::Open, Some(_)) => {
-                self.state = State::Faulted(2);
-                Taken::Fault { number: 2, place }
-            }
-            (State::Open, None) => {
-                self.state = State::Faulted(4);
-                Taken::Fault { number: 4, place }
-            }
-        }
+        };
+        self.state = State::Faulted(fault);
+        let number = fault.into();
+        Taken::Fault { number, place }
     }
 }

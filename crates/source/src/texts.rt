@@ -5,6 +5,7 @@ ghost use Rattle.source.specs.Laws.{text_terminals};
 ghost use Rattle.source.specs.Refusals.{text_refusal};
 ghost use Rattle.source.specs.Texts.{text_from, text_says};
 
+use crate::faults::Fault;
 use crate::sources::{Source, Taken};
 use book::symbols::is_terminal;
 
@@ -35,14 +36,12 @@ impl<'a, 'b> Text<'a, 'b> {
         if bytes.len() > MOST_BYTES {
             return Err(TextError::Long);
         }
-        match <&[u8; TABLE_SIZE]>::try_from(letters) {
-            Ok(letters) => Ok(Text {
-                bytes,
-                letters,
-                place: 0,
-            }),
-            Err(_) => Err(TextError::Table),
-        }
+        let letters = <&[u8; TABLE_SIZE]>::try_from(letters).map_err(|_| TextError::Table)?;
+        Ok(Text {
+            bytes,
+            letters,
+            place: 0,
+        })
     }
 }
 
@@ -53,12 +52,13 @@ impl Source for Text<'_, '_> {
 
     fn take(&mut self) -> Taken {
         let place = self.place;
-        if place >= self.bytes.len() {
+        let Some(byte) = self.bytes.get(place) else {
             return Taken::Clean { place };
-        }
-        let code = self.letters[self.bytes[place] as usize];
+        };
+        let code = self.letters[*byte as usize];
         if !is_terminal(code) {
-            return Taken::Fault { number: 1, place };
+            let number = Fault::Letter.into();
+            return Taken::Fault { number, place };
         }
         self.place = place + 1;
         Taken::Word { code, place }
