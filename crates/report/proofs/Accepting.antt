@@ -5,10 +5,11 @@ use Rattle.std.proofs.lemmas.Bool.Decides.{nat_tests}
 use Rattle.std.specs.List.{flat_map}
 use Rattle.reading.specs.declared.outcomes.Step.{Step}
 use Rattle.reading.specs.Told.{step_of, written_in}
-use Rattle.report.specs.Buffers.{Puts}
+use Rattle.report.specs.Writers.{Writes}
+use Rattle.report.specs.declared.writers.Writer.{Writer}
 use Rattle.report.specs.Texts.{fields_text, line_text, step_text, line_of, accepted_text}
 use Rattle.report.proofs.Joining.{joined_map, length_joined_more, joined_within}
-use Rattle.report.proofs.Putting.{puts_same, puts_then}
+use Rattle.report.proofs.Putting.{writes_same, writes_then}
 use Rattle.report.proofs.Sizes.{length_line}
 
 -- what stands past a list's end, as the code's loops read it
@@ -51,8 +52,8 @@ length_accepted steps words list front e =
     ap length (sym (accepted_lines steps words list front e)) ∙ length-append line (flat_map line_of front)
     ∙ ap (λ k. k + length (flat_map line_of front)) (length_line (codes "accepted") (steps ∷ words ∷ []))
 
-pub puts_accepted : (steps words : ℕ) (list front : List Step) (m n : ℕ) (before mid after : List ℕ) → front ≡ take steps list
-    → Puts (line_text (codes "accepted") (steps ∷ words ∷ [])) 0 before mid m → Puts (flat_map line_of front) m mid after n
-    → Puts (accepted_text steps words (written_in steps list)) 0 before after n
-puts_accepted steps words list front m n before mid after e p q =
-    puts_same _ _ _ _ _ _ (accepted_lines steps words list front e) (puts_then _ _ _ _ _ _ _ _ p q)
+pub writes_accepted : (steps words : ℕ) (list front : List Step) (a b c : Writer) → front ≡ take steps list
+    → Writes (line_text (codes "accepted") (steps ∷ words ∷ [])) a b → Writes (flat_map line_of front) b c
+    → Writes (accepted_text steps words (written_in steps list)) a c
+writes_accepted steps words list front a b c e v w =
+    writes_same _ _ _ _ (accepted_lines steps words list front e) (writes_then _ _ _ _ _ v w)

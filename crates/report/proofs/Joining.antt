@@ -2,8 +2,9 @@
 use Rattle.std.proofs.Common.{◌≡◌, ℕ, ◌+◌, ◌<◌, ◌≤◌, List, [], ◌∷◌, ◌++◌, map, length, get_or, take, drop, sym, refl, ap, ◌∙◌, arith}
 use Rattle.std.specs.List.{flat_map}
 use Rattle.std.proofs.lemmas.List.{append_assoc, length-append, take_more, take-append-drop, flat_map_more as joined-push}
-use Rattle.report.specs.Buffers.{Puts}
-use Rattle.report.proofs.Putting.{puts_same, puts_then}
+use Rattle.report.specs.Writers.{HasRoom, Writes}
+use Rattle.report.specs.declared.writers.Writer.{Writer}
+use Rattle.report.proofs.Putting.{writes_same, writes_then}
 
 pub joined_append : {X : Type 0} (f : X → List ℕ) (xs ys : List X) → flat_map f (xs ++ ys) ≡ flat_map f xs ++ flat_map f ys
 joined_append f [] ys = refl
@@ -28,7 +29,12 @@ joined_within f xs i =
     omega (arith, simp length-append at (ap length e))
 
 -- the texts of a front written, and then that of the next element
-pub puts_more : {X : Type 0} (f : X → List ℕ) (xs : List X) (i : ℕ) (d : X) (at m n : ℕ) (before mid after : List ℕ) → i < length xs
-    → Puts (flat_map f (take i xs)) at before mid m → Puts (f (get_or xs i d)) m mid after n → Puts (flat_map f (take (i + 1) xs)) at before after n
-puts_more f xs i d at m n before mid after h p q =
-    puts_same _ _ _ _ _ _ (sym (joined_more f xs i d h)) (puts_then _ _ _ _ _ _ _ _ p q)
+pub writes_more : {X : Type 0} (f : X → List ℕ) (xs : List X) (i : ℕ) (d : X) (a b c : Writer) → i < length xs
+    → Writes (flat_map f (take i xs)) a b → Writes (f (get_or xs i d)) b c → Writes (flat_map f (take (i + 1) xs)) a c
+writes_more f xs i d a b c h v w = writes_same _ _ _ _ (sym (joined_more f xs i d h)) (writes_then _ _ _ _ _ v w)
+
+-- before the next element's there is room for it
+pub room_for : {X : Type 0} (f : X → List ℕ) (xs : List X) (i : ℕ) (d : X) (text : List ℕ) (a b : Writer) → i < length xs → HasRoom text a
+    → length (flat_map f xs) ≤ length text → Writes (flat_map f (take i xs)) a b → HasRoom (f (get_or xs i d)) b
+room_for f xs i d text a b h room part w =
+    omega (arith, length_joined_more f xs i d h, joined_within f xs (i + 1), w.size, w.puts.next)

@@ -1,4 +1,3 @@
-pub mod Lists
 pub mod Decimals
 pub mod Putting
 pub mod Joining

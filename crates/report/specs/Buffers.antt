@@ -1,6 +1,6 @@
 -- Texts in a lent buffer.
-use Rattle.std.specs.Prelude.{◌≡◌, ℕ, ◌+◌, ◌*◌, List, [], ◌++◌, length, take, drop, nat_lt}
-use Rattle.book.specs.Answers.{Answer, granted, Refusal, no, refuse_if, leaves}
+use Rattle.std.specs.Prelude.{◌≡◌, ℕ, ◌+◌, ◌*◌, ◌≤◌, true, List, [], ◌++◌, length, take, drop, nat_lt, Result, is_ok}
+use Rattle.book.specs.Answers.{Answer, granted, Refusal, no, refuse_if, leaves, said}
 use Rattle.report.specs.declared.reports.ReportError.{ReportError}
 use Rattle.report.specs.declared.reports.ReportError.TheVariants as report
 
@@ -20,6 +20,12 @@ report_says text room = refuse_if (nat_lt room (length text)) (no 20 []) (grante
 -- the buffer after a report
 abbrev pub report_in : List ℕ → List ℕ → List ℕ
 report_in text buffer = leaves (report_says text (length buffer)) (λ n. text ++ drop n buffer) buffer
+
+-- what a report of a text answers and leaves; a buffer of this size is always enough
+pub record Reports (text : List ℕ) (enough : ℕ) (old new : List ℕ) (result : Result ℕ ReportError) : Type 0 where
+  pub answer : said report_refusal result ≡ report_says text (length old)
+  pub buffer : new ≡ report_in text old
+  pub room : enough ≤ length old → is_ok result ≡ true
 
 -- Room that is always enough.
 

@@ -2,8 +2,8 @@
 #![tactic(auto)]
 
 mod lines;
-mod numbers;
 pub mod reports;
 mod steps;
 #[cfg(test)]
 mod tests;
+mod writers;

@@ -1,11 +1,11 @@
 // Lines, and reports of one line.
-ghost use Rattle.std.specs.Prelude.{◌≡◌, ◌+◌, ◌*◌, ◌≤◌, true, length, is_ok};
-ghost use Rattle.book.specs.Answers.{said};
-ghost use Rattle.report.specs.Buffers.{Puts, report_refusal, report_says, report_in, line_room};
+ghost use Rattle.std.specs.Prelude.{◌≡◌, ◌+◌, ◌*◌, ◌≤◌, length};
+ghost use Rattle.report.specs.Buffers.{Reports, line_room};
 ghost use Rattle.report.specs.Texts.{field_text, fields_text, line_text};
+ghost use Rattle.report.specs.Writers.{HasRoom, Writes};
 
-use crate::numbers::{digits, put, put_number};
 use crate::reports::ReportError;
+use crate::writers::{Writer, digits};
 
 // How many bytes the fields past the first of a line have, with the newline.
 pub(crate) fn fields_size(fields: &[usize]) -> usize
@@ -20,34 +20,33 @@ pub(crate) fn fields_size(fields: &[usize]) -> usize
     size
 }
 
-// Writes a blank and a number at a place, and answers the place past them.
-fn put_field(out: &mut [u8], at: usize, field: usize) -> usize
-    requires { at + length (field_text field) ≤ length out.old }
-    ensures { Puts (field_text field) at out.old out.new result }
+// Writes a blank and a number.
+fn put_field(writer: &mut Writer, field: usize)
+    requires { HasRoom (field_text field) writer.old }
+    ensures { Writes (field_text field) writer.old writer.new }
 {
-    let next = put(out, at, b" ");
-    put_number(out, next, field)
+    writer.put(b" ");
+    writer.put_number(field);
 }
 
-// Writes the fields past the first of a line and the newline at a place, and answers the place past them.
-pub(crate) fn put_fields(out: &mut [u8], at: usize, fields: &[usize]) -> usize
-    requires { at + length (fields_text fields.now) ≤ length out.old }
-    ensures { Puts (fields_text fields.now) at out.old out.new result }
+// Writes the fields past the first of a line, and the newline.
+pub(crate) fn put_fields(writer: &mut Writer, fields: &[usize])
+    requires { HasRoom (fields_text fields.now) writer.old }
+    ensures { Writes (fields_text fields.now) writer.old writer.new }
 {
-    let mut end = at;
     for field in fields {
-        end = put_field(out, end, *field);
+        put_field(writer, *field);
     }
-    put(out, end, b"\n")
+    writer.put(b"\n");
 }
 
-// Writes a line at a place, and answers the place past it.
-pub(crate) fn put_line(out: &mut [u8], at: usize, word: &[u8], fields: &[usize]) -> usize
-    requires { at + length (line_text word.now fields.now) ≤ length out.old }
-    ensures { Puts (line_text word.now fields.now) at out.old out.new result }
+// Writes a line.
+pub(crate) fn put_line(writer: &mut Writer, word: &[u8], fields: &[usize])
+    requires { HasRoom (line_text word.now fields.now) writer.old }
+    ensures { Writes (line_text word.now fields.now) writer.old writer.new }
 {
-    let next = put(out, at, word);
-    put_fields(out, next, fields)
+    writer.put(word);
+    put_fields(writer, fields);
 }
 
 // The report that is one line.
@@ -58,12 +57,12 @@ pub(crate) fn report_line(
 ) -> Result<usize, ReportError>
     requires word_len_bound { length word.now ≤ 8 }
     requires fields_len_bound { length fields.now ≤ 5 }
-    ensures answer { said report_refusal result ≡ report_says (line_text word.now fields.now) (length out.old) }
-    ensures buffer { out.new ≡ report_in (line_text word.now fields.now) out.old }
-    ensures room { line_room ≤ length out.old → is_ok result ≡ true }
+    ensures { Reports (line_text word.now fields.now) line_room out.old out.new result }
 {
     if out.len() < word.len() + fields_size(fields) {
         return Err(ReportError::Short);
     }
-    Ok(put_line(out, 0, word, fields))
+    let mut writer = Writer::new(out);
+    put_line(&mut writer, word, fields);
+    Ok(writer.len())
 }

@@ -1,10 +1,9 @@
 // The reports: each answers how many bytes it wrote.
-ghost use Rattle.std.specs.Prelude.{◌≡◌, ◌≤◌, true, length, is_ok, codes};
-ghost use Rattle.book.specs.Answers.{said};
+ghost use Rattle.std.specs.Prelude.{◌≡◌, length, codes};
 ghost use Rattle.book.specs.Refusals.{enter_refusal, number_of, load_refusal};
 ghost use Rattle.source.specs.Refusals.{tape_refusal};
 ghost use Rattle.tables.specs.Built.{build_refusal};
-ghost use Rattle.report.specs.Buffers.{report_refusal, report_says, report_in, line_room, read_room};
+ghost use Rattle.report.specs.Buffers.{Reports, line_room, read_room};
 ghost use Rattle.report.specs.Texts.{read_text, outcome_text, refused_read_text, refusal_fields, refused_text, tape_text};
 
 use crate::lines::report_line;
@@ -28,9 +27,7 @@ fn report_refused(
     fault: usize,
     out: &mut [u8],
 ) -> Result<usize, ReportError>
-    ensures answer { said report_refusal result ≡ report_says (refused_read_text number outcome.now.steps outcome.now.words outcome.now.place fault) (length out.old) }
-    ensures buffer { out.new ≡ report_in (refused_read_text number outcome.now.steps outcome.now.words outcome.now.place fault) out.old }
-    ensures room { line_room ≤ length out.old → is_ok result ≡ true }
+    ensures { Reports (refused_read_text number outcome.now.steps outcome.now.words outcome.now.place fault) line_room out.old out.new result }
 {
     report_line(
         b"refused",
@@ -41,9 +38,7 @@ fn report_refused(
 
 // The report of a read on a built card.
 fn report_outcome(outcome: &Outcome, list: &[Step], out: &mut [u8]) -> Result<usize, ReportError>
-    ensures answer { said report_refusal result ≡ report_says (outcome_text outcome.now list.now) (length out.old) }
-    ensures buffer { out.new ≡ report_in (outcome_text outcome.now list.now) out.old }
-    ensures room { read_room (length list.now) ≤ length out.old → is_ok result ≡ true }
+    ensures { Reports (outcome_text outcome.now list.now) (read_room (length list.now)) out.old out.new result }
 {
     match outcome.verdict {
         Verdict::Accepted => report_accepted(outcome.steps, outcome.words, list, out),
@@ -60,9 +55,7 @@ pub fn report_read(
     list: &[Step],
     out: &mut [u8],
 ) -> Result<usize, ReportError>
-    ensures answer { said report_refusal result ≡ report_says (read_text outcome.now list.now) (length out.old) }
-    ensures buffer { out.new ≡ report_in (read_text outcome.now list.now) out.old }
-    ensures room { read_room (length list.now) ≤ length out.old → is_ok result ≡ true }
+    ensures { Reports (read_text outcome.now list.now) (read_room (length list.now)) out.old out.new result }
 {
     match outcome {
         Ok(o) => report_outcome(o, list, out),
@@ -98,9 +91,7 @@ fn load_fields(error: LoadError) -> [usize; 3]
 
 // The report of a refused load: its number, the place, and the number of the enter's refusal.
 pub fn report_load(error: &LoadError, out: &mut [u8]) -> Result<usize, ReportError>
-    ensures answer { said report_refusal result ≡ report_says (refused_text (codes "load") (load_refusal error.now)) (length out.old) }
-    ensures buffer { out.new ≡ report_in (refused_text (codes "load") (load_refusal error.now)) out.old }
-    ensures room { line_room ≤ length out.old → is_ok result ≡ true }
+    ensures { Reports (refused_text (codes "load") (load_refusal error.now)) line_room out.old out.new result }
 {
     report_line(b"load", &load_fields(*error), out)
 }
@@ -119,18 +110,14 @@ fn build_fields(error: BuildError) -> [usize; 3]
 
 // The report of a refused build: its number, the useless code or the state in conflict, and the symbol in conflict.
 pub fn report_build(error: &BuildError, out: &mut [u8]) -> Result<usize, ReportError>
-    ensures answer { said report_refusal result ≡ report_says (refused_text (codes "build") (build_refusal error.now)) (length out.old) }
-    ensures buffer { out.new ≡ report_in (refused_text (codes "build") (build_refusal error.now)) out.old }
-    ensures room { line_room ≤ length out.old → is_ok result ≡ true }
+    ensures { Reports (refused_text (codes "build") (build_refusal error.now)) line_room out.old out.new result }
 {
     report_line(b"build", &build_fields(*error), out)
 }
 
 // The report of a refused tape: its number.
 pub fn report_tape(error: &TapeError, out: &mut [u8]) -> Result<usize, ReportError>
-    ensures answer { said report_refusal result ≡ report_says (tape_text (tape_refusal error.now)) (length out.old) }
-    ensures buffer { out.new ≡ report_in (tape_text (tape_refusal error.now)) out.old }
-    ensures room { line_room ≤ length out.old → is_ok result ≡ true }
+    ensures { Reports (tape_text (tape_refusal error.now)) line_room out.old out.new result }
 {
     match error {
         TapeError::Long => report_line(b"tape", &[22], out),

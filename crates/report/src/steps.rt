@@ -1,14 +1,14 @@
 // The report of an accepted read: its first line, and a line for each step.
 ghost use Rattle.std.specs.Prelude.{◌≡◌, ◌+◌, ◌*◌, ◌≤◌, true, length, take, is_ok, nat_le};
 ghost use Rattle.std.specs.List.{flat_map};
-ghost use Rattle.book.specs.Answers.{said};
 ghost use Rattle.reading.specs.Told.{written_in};
-ghost use Rattle.report.specs.Buffers.{Puts, report_refusal, report_says, report_in, step_room, read_room};
+ghost use Rattle.report.specs.Buffers.{Reports, step_room, read_room};
 ghost use Rattle.report.specs.Texts.{accepted_text, line_of};
+ghost use Rattle.report.specs.Writers.{HasRoom, Writes};
 
 use crate::lines::{fields_size, put_fields, put_line};
-use crate::numbers::{digits, put_number};
 use crate::reports::ReportError;
+use crate::writers::{Writer, digits};
 use reading::outcomes::Step;
 
 const ACCEPTED: &[u8] = b"accepted";
@@ -37,32 +37,30 @@ fn has_room(steps: &[Step], room: usize) -> bool
     true
 }
 
-// Writes a step's line at a place, and answers the place past it.
-fn put_step(out: &mut [u8], at: usize, step: &Step) -> usize
-    requires { at + length (line_of step.now) ≤ length out.old }
-    ensures { Puts (line_of step.now) at out.old out.new result }
+// Writes a step's line.
+fn put_step(writer: &mut Writer, step: &Step)
+    requires { HasRoom (line_of step.now) writer.old }
+    ensures { Writes (line_of step.now) writer.old writer.new }
 {
-    let next = put_number(out, at, step.rule as usize);
-    put_fields(out, next, &[step.first, step.width])
+    writer.put_number(step.rule as usize);
+    put_fields(writer, &[step.first, step.width]);
 }
 
-// Writes the lines of the steps at a place, and answers the place past them.
-fn put_steps(out: &mut [u8], at: usize, steps: &[Step]) -> usize
-    requires { at + length (flat_map line_of steps.now) ≤ length out.old }
-    ensures { Puts (flat_map line_of steps.now) at out.old out.new result }
+// Writes the lines of the steps.
+fn put_steps(writer: &mut Writer, steps: &[Step])
+    requires { HasRoom (flat_map line_of steps.now) writer.old }
+    ensures { Writes (flat_map line_of steps.now) writer.old writer.new }
 {
-    let mut end = at;
     for step in steps {
-        end = put_step(out, end, step);
+        put_step(writer, step);
     }
-    end
 }
 
 // The first places of the list, as many as there are steps, or all.
 fn front(list: &[Step], steps: usize) -> &[Step]
     ensures { result.now ≡ take steps list.now }
 {
-    &list[0..steps.min(list.len())]
+    &list[..steps.min(list.len())]
 }
 
 // The report of an accepted read.
@@ -72,9 +70,7 @@ pub(crate) fn report_accepted(
     list: &[Step],
     out: &mut [u8],
 ) -> Result<usize, ReportError>
-    ensures answer { said report_refusal result ≡ report_says (accepted_text steps words (written_in steps list.now)) (length out.old) }
-    ensures buffer { out.new ≡ report_in (accepted_text steps words (written_in steps list.now)) out.old }
-    ensures room { read_room (length list.now) ≤ length out.old → is_ok result ≡ true }
+    ensures { Reports (accepted_text steps words (written_in steps list.now)) (read_room (length list.now)) out.old out.new result }
 {
     let written = front(list, steps);
     let fields = [steps, words];
@@ -82,6 +78,8 @@ pub(crate) fn report_accepted(
     if out.len() < size || !has_room(written, out.len() - size) {
         return Err(ReportError::Short);
     }
-    let at = put_line(out, 0, ACCEPTED, &fields);
-    Ok(put_steps(out, at, written))
+    let mut writer = Writer::new(out);
+    put_line(&mut writer, ACCEPTED, &fields);
+    put_steps(&mut writer, written);
+    Ok(writer.len())
 }

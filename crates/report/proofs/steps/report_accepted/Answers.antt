@@ -1,9 +1,9 @@
-use Rattle.std.proofs.Common.{◌<◌, ◌≤◌, length, sym, refl, arith}
+use Rattle.std.proofs.Common.{◌<◌, ◌≤◌, length, sym, arith, rules}
 use Rattle.std.proofs.lemmas.Bool.{leb-true, leb-false, false≢true}
 use Rattle.reading.specs.Told.{written_in}
 use Rattle.report.specs.Buffers.{read_room}
 use Rattle.report.specs.Texts.{accepted_text}
-use Rattle.report.proofs.Accepting.{front_few, length_accepted, puts_accepted}
+use Rattle.report.proofs.Accepting.{front_few, length_accepted, writes_accepted}
 use Rattle.report.proofs.Reporting.{reports_short, reports_all}
 use Rattle.report.proofs.steps.report_accepted.Goals as goal
 use Rattle.report.proofs.steps.report_accepted.Goals.{then-out-size-via-then-out-size, then-out-size-via-else-out-size+then-not-has_room}
@@ -23,8 +23,7 @@ returns-then-out-size c =
       | then-out-size-via-then-out-size w ↦ omega (arith, w.if-out-size.true, c.fields_size.ensures.few)
       | then-out-size-via-else-out-size+then-not-has_room w ↦ false≢true (w.if-not-has_room.ensures.enough (omega (arith, front, w.if-out-size.false, c.fields_size.ensures.few)))
     ] in
-    let r = reports_short text c.args.out.now short in
-    record { answer = r.0; buffer = r.1; room = λ h. absurd (wanting h) }
+    reports_short text c.args.out.now _ short wanting
 
 pub returns : goal.returns
 returns c =
@@ -32,8 +31,5 @@ returns c =
     let size = length_accepted c.args.steps c.args.words c.args.list.now c.front-written.result.now c.front-written.ensures in
     let fits : length text ≤ length c.args.out.now =
     omega (arith, size, leb-true _ _ (sym c.if-not-has_room.ensures.fits), c.if-out-size.false, c.fields_size.ensures.size) in
-    let puts =
-    puts_accepted c.args.steps c.args.words c.args.list.now c.front-written.result.now _ _ _ _ _
-    c.front-written.ensures c.put_line-at.ensures c.put_steps.ensures in
-    let r = reports_all text c.args.out.now c.put_steps.new.out c.put_steps.result fits puts in
-    record { answer = r.0; buffer = r.1; room = λ _. refl }
+    let wrote = writes_accepted c.args.steps c.args.words c.args.list.now c.front-written.result.now _ _ _ c.front-written.ensures c.put_line.ensures c.put_steps.ensures in
+    reports_all text _ _ _ _ _ _ fits c.new-writer.ensures.start c.new-writer.ensures.buffer wrote (search rules) c.len.ensures

@@ -1,7 +1,7 @@
 use Rattle.std.proofs.Common.{sym, arith}
 use Rattle.std.proofs.lemmas.Fmt.{length-decimal-le}
 use Rattle.report.proofs.Decimals.{length_digit, length_step}
-use Rattle.report.proofs.numbers.+digits.Goals as goal
+use Rattle.report.proofs.writers.+digits.Goals as goal
 
 pub returns-then-n-lt10 : goal.returns-then-n-lt10
 returns-then-n-lt10 t c = (sym (length_digit c.args.n c.if-n-lt10.true), omega arith)

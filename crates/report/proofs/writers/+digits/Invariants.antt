@@ -1,4 +1,4 @@
-use Rattle.report.proofs.numbers.+digits.Given as goal
+use Rattle.report.proofs.writers.+digits.Given as goal
 
 abbrev pub decreases-digits : goal.decreases-digits
 decreases-digits l = l.n

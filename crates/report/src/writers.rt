@@ -1,0 +1,58 @@
+// Bytes, and numbers in base ten, written into a lent buffer.
+ghost use Rattle.std.specs.Prelude.{◌≡◌, ◌≤◌, length, decimal};
+
+// A lent buffer, and the place up to which it is written.
+#[derive(Drop)]
+pub(crate) struct Writer<'a> {
+    out: &'a mut [u8],
+    at: usize,
+}
+
+// How many digits a number has.
+pub(crate) fn digits(n: usize) -> usize
+    ensures { (result ≡ length (decimal n)) × (result ≤ 20) }
+{
+    if n < 10 { 1 } else { digits(n / 10) + 1 }
+}
+
+impl<'a> Writer<'a> {
+    ghost use Rattle.report.specs.Writers.{HasRoom, Writes};
+
+    // Stays a writer of our own: std's clauses of `write!` say what stands there on an Ok, and never that it is Ok.
+    pub(crate) fn new(out: &'a mut [u8]) -> Writer<'a>
+        ensures same { result.out.ghost_name ≡ out.entry.ghost_name }
+        ensures buffer { result.out.now ≡ out.old }
+        ensures start { result.at ≡ 0 }
+    {
+        Writer { out, at: 0 }
+    }
+
+    // How many bytes are written.
+    pub(crate) fn len(&self) -> usize
+        ensures { result ≡ self.now.at }
+    {
+        self.at
+    }
+
+    // Writes bytes.
+    // Stays beside its twin for book files: a shared one, as a public call, would have no `requires`, and so an Err that never comes.
+    pub(crate) fn put(&mut self, bytes: &[u8])
+        requires { HasRoom bytes.now self.old }
+        ensures { Writes bytes.now self.old self.new }
+    {
+        let end = self.at + bytes.len();
+        self.out[self.at..end].copy_from_slice(bytes);
+        self.at = end;
+    }
+
+    // Writes a number.
+    pub(crate) fn put_number(&mut self, n: usize)
+        requires { HasRoom (decimal n) self.old }
+        ensures { Writes (decimal n) self.old self.new }
+    {
+        if n >= 10 {
+            self.put_number(n / 10);
+        }
+        self.put(&[b'0' + (n % 10) as u8]);
+    }
+}
