@@ -1,5 +1,6 @@
 // The reports: each answers how many bytes it wrote.
-ghost use Rattle.std.specs.Prelude.{◌≡◌, length, codes};
+ghost use Rattle.std.specs.Prelude.{◌≡◌, ℕ, ◌≤◌, List, length, codes};
+ghost use Rattle.book.specs.Answers.{Refusal};
 ghost use Rattle.book.specs.Refusals.{enter_refusal, number_of, load_refusal};
 ghost use Rattle.source.specs.Refusals.{tape_refusal};
 ghost use Rattle.tables.specs.Built.{build_refusal};
@@ -76,46 +77,70 @@ fn enter_number(error: EnterError) -> usize
     }
 }
 
-// The fields of a load's refusal.
-fn load_fields(error: LoadError) -> [usize; 3]
-    ensures { result ≡ refusal_fields (load_refusal error) }
-{
-    match error {
-        LoadError::Kind(place) => [15, place, 0],
-        LoadError::Ended(place) => [16, place, 0],
-        LoadError::Enter(place, cause) => [17, place, enter_number(cause)],
-        LoadError::Count(place) => [18, place, 0],
-        LoadError::Trailing(place) => [19, place, 0],
+// An error whose report is one line: the call's word, the refusal's number, and the two values that it names, 0 for one that it lacks.
+pub trait Refused {
+    ghost word: { List ℕ };
+
+    ghost refusal: { Self → Refusal };
+
+    fn word() -> &'static [u8]
+        ensures same { result.now ≡ word }
+        ensures short { length word ≤ 8 };
+
+    fn fields(&self) -> [usize; 3]
+        ensures { result ≡ refusal_fields (refusal self.now) };
+}
+
+// A load: the place, and the number of the enter's refusal.
+impl Refused for LoadError {
+    ghost word = { codes "load" };
+
+    ghost refusal = { load_refusal };
+
+    fn word() -> &'static [u8] {
+        b"load"
+    }
+
+    fn fields(&self) -> [usize; 3] {
+        match *self {
+            LoadError::Kind(place) => [15, place, 0],
+            LoadError::Ended(place) => [16, place, 0],
+            LoadError::Enter(place, cause) => [17, place, enter_number(cause)],
+            LoadError::Count(place) => [18, place, 0],
+            LoadError::Trailing(place) => [19, place, 0],
+        }
     }
 }
 
-// The report of a refused load: its number, the place, and the number of the enter's refusal.
-pub fn report_load(error: &LoadError, out: &mut [u8]) -> Result<usize, ReportError>
-    ensures { Reports (refused_text (codes "load") (load_refusal error.now)) line_room out.old out.new result }
-{
-    report_line(b"load", &load_fields(*error), out)
-}
+// A build: the useless code or the state in conflict, and the symbol in conflict.
+impl Refused for BuildError {
+    ghost word = { codes "build" };
 
-// The fields of a build's refusal.
-fn build_fields(error: BuildError) -> [usize; 3]
-    ensures { result ≡ refusal_fields (build_refusal error) }
-{
-    match error {
-        BuildError::Rules => [1, 0, 0],
-        BuildError::Useless(code) => [7, code as usize, 0],
-        BuildError::States => [8, 0, 0],
-        BuildError::Conflict(state, symbol) => [9, state as usize, symbol as usize],
+    ghost refusal = { build_refusal };
+
+    fn word() -> &'static [u8] {
+        b"build"
+    }
+
+    fn fields(&self) -> [usize; 3] {
+        match *self {
+            BuildError::Rules => [1, 0, 0],
+            BuildError::Useless(code) => [7, code as usize, 0],
+            BuildError::States => [8, 0, 0],
+            BuildError::Conflict(state, symbol) => [9, state as usize, symbol as usize],
+        }
     }
 }
 
-// The report of a refused build: its number, the useless code or the state in conflict, and the symbol in conflict.
-pub fn report_build(error: &BuildError, out: &mut [u8]) -> Result<usize, ReportError>
-    ensures { Reports (refused_text (codes "build") (build_refusal error.now)) line_room out.old out.new result }
+// The report of a refused load or build.
+pub fn report_error<E: Refused>(error: &E, out: &mut [u8]) -> Result<usize, ReportError>
+    ensures { Reports (refused_text E.word (E.refusal error.now)) line_room out.old out.new result }
 {
-    report_line(b"build", &build_fields(*error), out)
+    report_line(E::word(), &error.fields(), out)
 }
 
 // The report of a refused tape: its number.
+// Stays beside `report_error`: its line has one field, and a number of fields for each error takes a const parameter on `Refused` for this call alone.
 pub fn report_tape(error: &TapeError, out: &mut [u8]) -> Result<usize, ReportError>
     ensures { Reports (tape_text (tape_refusal error.now)) line_room out.old out.new result }
 {

@@ -1,5 +1,5 @@
 // The text of each answer, and buffers at the edge.
-use crate::reports::{ReportError, report_build, report_load, report_read, report_tape};
+use crate::reports::{ReportError, report_error, report_read, report_tape};
 use book::files::LoadError;
 use book::rules::EnterError;
 use card::refusals::ReadError;
@@ -108,27 +108,27 @@ fn refused_loads(rt: HostRuntime) {
     let mut out = [255; 40];
     wrote(
         &rt,
-        report_load(&LoadError::Kind(0), &mut out),
+        report_error(&LoadError::Kind(0), &mut out),
         &out,
         b"load 15 0 0\n",
     );
     wrote(
         &rt,
-        report_load(&LoadError::Ended(12), &mut out),
+        report_error(&LoadError::Ended(12), &mut out),
         &out,
         b"load 16 12 0\n",
     );
     let enter = LoadError::Enter(9, EnterError::Code(1));
-    wrote(&rt, report_load(&enter, &mut out), &out, b"load 17 9 4\n");
+    wrote(&rt, report_error(&enter, &mut out), &out, b"load 17 9 4\n");
     wrote(
         &rt,
-        report_load(&LoadError::Count(700), &mut out),
+        report_error(&LoadError::Count(700), &mut out),
         &out,
         b"load 18 700 0\n",
     );
     wrote(
         &rt,
-        report_load(&LoadError::Trailing(2), &mut out),
+        report_error(&LoadError::Trailing(2), &mut out),
         &out,
         b"load 19 2 0\n",
     );
@@ -139,25 +139,25 @@ fn refused_builds(rt: HostRuntime) {
     let mut out = [255; 40];
     wrote(
         &rt,
-        report_build(&BuildError::Rules, &mut out),
+        report_error(&BuildError::Rules, &mut out),
         &out,
         b"build 1 0 0\n",
     );
     wrote(
         &rt,
-        report_build(&BuildError::Useless(41), &mut out),
+        report_error(&BuildError::Useless(41), &mut out),
         &out,
         b"build 7 41 0\n",
     );
     wrote(
         &rt,
-        report_build(&BuildError::States, &mut out),
+        report_error(&BuildError::States, &mut out),
         &out,
         b"build 8 0 0\n",
     );
     wrote(
         &rt,
-        report_build(&BuildError::Conflict(3, 80), &mut out),
+        report_error(&BuildError::Conflict(3, 80), &mut out),
         &out,
         b"build 9 3 80\n",
     );
