@@ -1,11 +1,10 @@
 // Item sets, as a row of dots for each numbered rule, the outer rule's first.
-ghost use Rattle.std.specs.Prelude.{◌≡◌};
-ghost use Rattle.book.specs.Held.{productions_of};
+ghost use Rattle.std.specs.Prelude.{◌≡◌, MatchOption};
+ghost use Rattle.book.specs.Held.{production_of, productions_of};
 ghost use Rattle.grammar.specs.Items.{read_row, reads, is_complete};
-ghost use Rattle.grammar.specs.Numbered.{numbered, line_at};
-ghost use Rattle.grammar.specs.Sets.{has};
+ghost use Rattle.grammar.specs.Numbered.{outer, numbered, line_at};
 
-use crate::sets::{SYMBOLS, SymbolSet, insert};
+use crate::sets::{SYMBOLS, SymbolSet, flag_at, insert};
 use book::rules::Rule;
 use book::symbols::FIRST_NONTERMINAL;
 
@@ -14,24 +13,28 @@ pub const DOTS: usize = 7;
 
 pub type DotRow = [bool; DOTS];
 
+// The book's rule of a number from 1 up. The outer rule stands for all others.
+fn rule_at(rules: &[Rule], number: usize) -> Option<&Rule>
+    ensures { let line = line_at (numbered (productions_of rules.now)) number in MatchOption result (line ≡ outer) (λ r. line ≡ production_of r.now) }
+{
+    rules.get(number.checked_sub(1)?)
+}
+
 // The left side of a numbered rule; that of the outer rule is the end mark.
 pub fn left_of(rules: &[Rule], number: usize) -> u8
     ensures { result ≡ (line_at (numbered (productions_of rules.now)) number).lhs }
 {
-    if number < 1 || number > rules.len() {
-        return 0;
-    }
-    rules[number - 1].left()
+    rule_at(rules, number).map_or(0, |rule| rule.left())
 }
 
 // The right side of a numbered rule; that of the outer rule is the start symbol alone.
 pub fn right_of(rules: &[Rule], number: usize) -> &[u8]
     ensures { result.now ≡ (line_at (numbered (productions_of rules.now)) number).rhs }
 {
-    if number < 1 || number > rules.len() {
-        return &[FIRST_NONTERMINAL];
+    match rule_at(rules, number) {
+        Some(rule) => rule.right(),
+        None => &[FIRST_NONTERMINAL],
     }
-    rules[number - 1].right()
 }
 
 // Puts the symbols behind the dots of one rule in.
@@ -65,15 +68,5 @@ pub fn is_complete(rules: &[Rule], items: &[DotRow], number: usize) -> bool
     ensures { result ≡ is_complete (numbered (productions_of rules.now)) items.now number }
 {
     let end = right_of(rules, number).len();
-    if number < items.len() {
-        dot_at(&items[number], end)
-    } else {
-        false
-    }
-}
-
-fn dot_at(row: &DotRow, dot: usize) -> bool
-    ensures { result ≡ has row.now dot }
-{
-    if dot < DOTS { row[dot] } else { false }
+    items.get(number).is_some_and(|row| flag_at(row, end))
 }

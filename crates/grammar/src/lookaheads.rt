@@ -1,14 +1,14 @@
 // Lookahead policies: for a complete rule of a closed item set, the symbols on which it may be reduced by.
-ghost use Rattle.std.specs.Prelude.{◌≡◌, [], map, slice_index_or};
+ghost use Rattle.std.specs.Prelude.{◌≡◌, map};
 ghost use Rattle.book.specs.Held.{productions_of};
 ghost use Rattle.grammar.specs.Laws.{Lawful};
 ghost use Rattle.grammar.specs.Lookahead.{Policy, slr, leftmost_follow, lookahead_of, meets, slr_conflicting, slr_if_adequate};
 ghost use Rattle.grammar.specs.Relating.{related_by};
-ghost use Rattle.grammar.specs.Sets.{has, codes};
+ghost use Rattle.grammar.specs.Sets.{codes};
 ghost use Rattle.grammar.specs.Policies.{slr_lawful, leftmost_follow_lawful, slr_if_adequate_lawful};
 
 use crate::items::{DotRow, is_complete, left_of, reads};
-use crate::relations::{RelationSets, SymbolTable, unite};
+use crate::relations::{RelationSets, set_of, unite};
 use crate::sets::{SYMBOLS, SymbolSet};
 use book::rules::Rule;
 
@@ -29,25 +29,6 @@ pub trait Lookahead {
     ghost lawful: { (x : Self) → Lawful (policy x) };
 }
 
-// A set, as what it says of each code.
-fn spread(set: &SymbolSet) -> SymbolSet
-    ensures { result ≡ map (has set.now) codes }
-{
-    *set
-}
-
-// The set of a symbol in a table; none has a code past the last.
-fn row_of(table: &SymbolTable, symbol: u8) -> SymbolSet
-    ensures { result ≡ map (has (slice_index_or table.now symbol [])) codes }
-{
-    let x = symbol as usize;
-    if x < SYMBOLS {
-        spread(&table[x])
-    } else {
-        [false; SYMBOLS]
-    }
-}
-
 // SLR: the followers of the rule's left side.
 #[derive(Clone, Copy)]
 pub struct Slr;
@@ -64,7 +45,7 @@ impl Lookahead for Slr {
         closed: &[DotRow],
         number: usize,
     ) -> SymbolSet {
-        row_of(&sets.followers, left_of(rules, number))
+        set_of(&sets.followers, left_of(rules, number))
     }
 }
 
@@ -84,7 +65,7 @@ impl Lookahead for LeftmostFollow {
         closed: &[DotRow],
         number: usize,
     ) -> SymbolSet {
-        row_of(&sets.leftmosts, left_of(rules, number))
+        set_of(&sets.leftmosts, left_of(rules, number))
     }
 }
 

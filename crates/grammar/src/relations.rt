@@ -46,16 +46,23 @@ impl Growth for End {
 // A set for each symbol.
 pub type SymbolTable = [SymbolSet; SYMBOLS];
 
+// The set of a symbol; none has a code past the last.
+pub(crate) fn set_of(table: &SymbolTable, symbol: u8) -> SymbolSet
+    ensures { result ≡ map (has (slice_index_or table.now symbol [])) codes }
+{
+    table
+        .get(usize::from(symbol))
+        .copied()
+        .unwrap_or([false; SYMBOLS])
+}
+
 // Whether y is in the set of x.
 pub fn related(table: &SymbolTable, x: u8, y: u8) -> bool
     ensures { result ≡ has (slice_index_or table.now x []) y }
 {
-    let row = x as usize;
-    if row < SYMBOLS {
-        contains(&table[row], y)
-    } else {
-        false
-    }
+    table
+        .get(usize::from(x))
+        .is_some_and(|set| contains(set, y))
 }
 
 fn corners_of(rules: &[Rule], end: End, symbol: u8) -> SymbolSet

@@ -7,11 +7,17 @@ pub const SYMBOLS: usize = 81;
 
 pub type SymbolSet = [bool; SYMBOLS];
 
+// Whether the flag at a place is set; past the last none is.
+pub(crate) fn flag_at(flags: &[bool], place: usize) -> bool
+    ensures { result ≡ has flags.now place }
+{
+    flags.get(place).copied().unwrap_or(false)
+}
+
 pub fn contains(set: &SymbolSet, symbol: u8) -> bool
     ensures { result ≡ has set.now symbol }
 {
-    let x = symbol as usize;
-    if x < SYMBOLS { set[x] } else { false }
+    flag_at(set, usize::from(symbol))
 }
 
 // Puts a symbol in, and answers whether that changed the set.
