@@ -1,7 +1,10 @@
 -- Counted loops, turn by turn: repeating a function, going through numbers, filling a table.
-use Rattle.std.proofs.Common.{◌≡◌, ℕ, zero, suc, ◌+◌, ◌-◌, ◌<◌, ◌≤◌, Bool, true, false, List, [], ◌∷◌, ◌++◌, map, length, get_or, take, drop, set, Some, None, sym, ap, ◌∙◌, ap₂, arith, length-set}
-use Rattle.std.proofs.lemmas.List.{append_assoc, take_more_set, take_all, drop_more, drop-set-lt}
-use Rattle.grammar.specs.Sets.{times, up_from, keep, any}
+use Rattle.std.proofs.Common.{◌≡◌, ℕ, zero, suc, ◌+◌, ◌-◌, ◌<◌, ◌≤◌, Bool, true, false, cond, ◌&&◌, List, [], ◌∷◌, ◌++◌, map, length, get_or, take, drop, set, Option, Some, None, refl, sym, ap, ◌∙◌, ap₂, arith, length-set}
+use Rattle.std.specs.List.{find, list_all}
+use Rattle.std.specs.Option.{option_map}
+use Rattle.std.proofs.lemmas.List.{append_assoc, ext_get_or, take_more_set, take_all, drop_more, drop-set-lt}
+use Rattle.grammar.specs.Flagging.{at_code}
+use Rattle.grammar.specs.Sets.{symbol_count, codes, times, up_from, keep, any, every}
 use Rattle.grammar.specs.Useful.{lowest}
 
 -- what is left to repeat, one turn on and at the end
@@ -40,21 +43,34 @@ fill_done g n all x low high l inv =
     let e : x ≡ n = omega arith in
     sym (take_all x all (omega arith)) ∙ inv ∙ ap (λ m. map g (up_from 0 m)) e
 
--- the lowest number that passes a test, looked for from x up to n
-module _ (p : ℕ → Bool) (n x : ℕ) where
-  lowest_turn : x < n → (t : Bool) → p x ≡ t → lowest p (up_from x (n - x)) ≡ elim t [ true ↦ Some x | false ↦ lowest p (up_from (x + 1) (n - (x + 1))) ]
-  lowest_turn h t e =
-      let step : lowest p (up_from x (n - x)) ≡ elim (p x) [ true ↦ Some x | false ↦ lowest p (up_from (x + 1) (n - (x + 1))) ] = ap (lowest p) (up_more n x h) in
-      step ∙ ap (λ b. elim b [ true ↦ Some x | false ↦ lowest p (up_from (x + 1) (n - (x + 1))) ]) e
+-- a table with the values of a function at all codes is the table of that function
+pub filled : {A : Type 0} (g : ℕ → A) (d : A) (all : List A) → length all ≡ symbol_count → ((x : ℕ) → x < symbol_count → get_or all x d ≡ g x) → all ≡ map g codes
+filled g d all l e = ext_get_or d all (map g codes) l (λ x h. e x (omega arith) ∙ sym (at_code g d x (omega arith)))
 
-  pub lowest_here : x < n → p x ≡ true → lowest p (up_from x (n - x)) ≡ Some x
-  lowest_here h e = lowest_turn h true e
+-- every element of a list passes a test
+pub all_every : {A : Type 0} (p : A → Bool) (xs : List A) → list_all p xs ≡ every p xs
+all_every p [] = refl
+all_every p (x ∷ xs) = turn (p x) (list_all p xs) (every p xs) (all_every p xs)
+  where
+    turn : (t a b : Bool) → a ≡ b → (t && a) ≡ elim t [ true ↦ b | false ↦ false ]
+    turn true a b e = e
+    turn false a b e = refl
 
-  pub lowest_more : x < n → p x ≡ false → lowest p (up_from x (n - x)) ≡ lowest p (up_from (x + 1) (n - (x + 1)))
-  lowest_more h e = lowest_turn h false e
+-- the lowest of some numbers that passes a test is the first that is found
+pub find_lowest : (p : ℕ → Bool) (r : Option ℕ) (xs : List ℕ) → option_map (λ x. x) r ≡ find p xs → r ≡ lowest p xs
+find_lowest p r xs e = same r ∙ e ∙ go xs
+  where
+    same : (o : Option ℕ) → o ≡ option_map (λ x. x) o
+    same None = refl
+    same (Some x) = refl
 
-  pub lowest_done : n ≤ x → lowest p (up_from x (n - x)) ≡ None
-  lowest_done h = ap (lowest p) (up_done n x h)
+    turn : (t : Bool) (x : ℕ) (o q : Option ℕ) → o ≡ q → cond t (Some x) o ≡ elim t [ true ↦ Some x | false ↦ q ]
+    turn true x o q i = refl
+    turn false x o q i = i
+
+    go : (ys : List ℕ) → find p ys ≡ lowest p ys
+    go [] = refl
+    go (y ∷ ys) = turn (p y) y (find p ys) (lowest p ys) (go ys)
 
 -- a list that is changed in place, element by element, beside another
 pub beside_more : {X Y : Type 0} (F : List X → List Y → List Y) (g : X → Y → Y)

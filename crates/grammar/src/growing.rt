@@ -24,9 +24,7 @@ fn round<G: Growth>(growth: &G, rules: &[Rule], set: &mut SymbolSet) -> bool
 {
     let mut changed = false;
     for rule in rules {
-        if growth.grow(set, rule) {
-            changed = true;
-        }
+        changed |= growth.grow(set, rule);
     }
     changed
 }

@@ -2,13 +2,14 @@
 ghost use Rattle.std.specs.Prelude.{◌≡◌, false};
 ghost use Rattle.book.specs.Held.{productions_of};
 ghost use Rattle.grammar.specs.Laws.{LowestUseless};
-ghost use Rattle.grammar.specs.Sets.{has, every};
-ghost use Rattle.grammar.specs.Useful.{insert_all, reach_step, yield_step, reached_in, yielding_in, occurring_in, terminals, useless_in};
+ghost use Rattle.grammar.specs.Sets.{has, codes, every};
+ghost use Rattle.grammar.specs.Useful.{insert_all, reach_step, yield_step, reached_in, yielding_in, occurring_in, terminals, lowest, is_useless, useless_in};
 
 use crate::growing::{Growth, saturate};
 use crate::sets::{SYMBOLS, SymbolSet, contains, insert};
 use book::rules::Rule;
 use book::symbols::{FIRST_NONTERMINAL, is_terminal};
+use std::array;
 
 // Puts all of these symbols in. Answers whether the set changed.
 fn insert_all(set: &mut SymbolSet, symbols: &[u8]) -> bool
@@ -17,9 +18,7 @@ fn insert_all(set: &mut SymbolSet, symbols: &[u8]) -> bool
 {
     let mut changed = false;
     for symbol in symbols {
-        if insert(set, *symbol) {
-            changed = true;
-        }
+        changed |= insert(set, *symbol);
     }
     changed
 }
@@ -28,12 +27,7 @@ fn insert_all(set: &mut SymbolSet, symbols: &[u8]) -> bool
 fn contains_all(set: &SymbolSet, symbols: &[u8]) -> bool
     ensures { result ≡ every (has set.now) symbols.now }
 {
-    for symbol in symbols {
-        if !contains(set, *symbol) {
-            return false;
-        }
-    }
-    true
+    symbols.iter().all(|symbol| contains(set, *symbol))
 }
 
 // A rule for a reached symbol reaches all of its right side.
@@ -67,11 +61,7 @@ impl Growth for Yield {
 fn terminals() -> SymbolSet
     ensures { result ≡ terminals }
 {
-    let mut set = [false; SYMBOLS];
-    for x in 0..SYMBOLS {
-        set[x] = is_terminal(x as u8);
-    }
-    set
+    array::from_fn(|x| is_terminal(x as u8))
 }
 
 fn reached(rules: &[Rule]) -> SymbolSet
@@ -104,18 +94,19 @@ fn occurring(rules: &[Rule]) -> SymbolSet
     set
 }
 
+// The lowest code of the first set that is not in both others.
+fn lowest_useless(occurring: &SymbolSet, reached: &SymbolSet, yielding: &SymbolSet) -> Option<u8>
+    ensures { result ≡ lowest (is_useless occurring.now reached.now yielding.now) codes }
+{
+    (0..SYMBOLS as u8).find(|x| {
+        contains(occurring, *x) && !(contains(reached, *x) && contains(yielding, *x))
+    })
+}
+
 // The lowest code that occurs and is not useful.
 pub fn useless(rules: &[Rule]) -> Option<u8>
     ensures equal { result ≡ useless_in (productions_of rules.now) }
     ensures tell { LowestUseless (productions_of rules.now) result }
 {
-    let occurring = occurring(rules);
-    let reached = reached(rules);
-    let yielding = yielding(rules);
-    for x in 0..SYMBOLS {
-        if occurring[x] & !(reached[x] & yielding[x]) {
-            return Some(x as u8);
-        }
-    }
-    None
+    lowest_useless(&occurring(rules), &reached(rules), &yielding(rules))
 }
