@@ -1,5 +1,5 @@
 -- What the code's stacks stand for.
-use Rattle.std.specs.Prelude.{◌≡◌, ℕ, ◌+◌, ◌≤◌, List, [], ◌∷◌, map, reverse, take, Some, None, Option}
+use Rattle.std.specs.Prelude.{◌≡◌, ℕ, ◌+◌, List, [], ◌∷◌, map, Some, None, Option}
 use Rattle.reading.specs.declared.piles.Symbol.{Symbol}
 use Rattle.reading.specs.declared.piles.Stacked.{Stacked}
 use Rattle.reading.specs.declared.piles.Stacks.{Stacks}
@@ -10,27 +10,18 @@ abbrev pub most_held : ℕ
 most_held = 1001
 
 abbrev pub symbol_of : Symbol → SpannedSymbol
-symbol_of x = record { sym_code = x.code; first_word = x.first; word_count = x.width }
+symbol_of x = record { sym_code = x.code; first_word = x.span.first; word_count = x.span.width }
 
 abbrev pub stacked_of : Stacked → StackedSymbol
 stacked_of p = record { spanned = symbol_of p.symbol; state_above = p.state }
 
--- the first n of a list, the last of them in front
-abbrev pub down_from : {X : Type 0} → ℕ → List X → List X
-down_from n xs = reverse (take n xs)
-
 -- the stack, top first
 abbrev pub stack_of : Stacks → List StackedSymbol
-stack_of s = map stacked_of (down_from s.depth s.stacked)
+stack_of s = map stacked_of s.stacked
 
 -- the pending symbols, the next one first
 abbrev pub pending_of : Stacks → List SpannedSymbol
-pending_of s = map symbol_of (down_from s.waiting s.pending)
-
--- the counts are within the arrays
-pub record Sized (s : Stacks) : Type 0 where
-  pub deep : s.depth ≤ most_held
-  pub long : s.waiting ≤ most_held
+pending_of s = map symbol_of s.pending
 
 -- the first of some symbols, and what is left of them
 abbrev pub Next : Option Symbol → List SpannedSymbol → List SpannedSymbol → Type 0

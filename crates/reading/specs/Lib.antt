@@ -4,6 +4,7 @@ pub mod Reader
 pub mod Reading
 pub mod Promise
 pub mod Building
+pub mod Down
 pub mod Held
 pub mod Told
 pub mod Cases

@@ -4,6 +4,7 @@
 pub mod outcomes;
 pub mod piles;
 pub mod runs;
+mod stack;
 pub mod turns;
 
 ghost use Rattle.reading.specs.Cases.{CasesHold, WorkedHold};

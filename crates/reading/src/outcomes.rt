@@ -1,4 +1,5 @@
 // What a read writes and what it answers.
+ghost use Rattle.std.specs.Prelude.{◌≡◌};
 
 // What a read writes for each reduce: the number of the rule, how many words stand left of its words, and how many they are.
 #[derive(Clone, Copy, PartialEq, Debug)]
@@ -27,9 +28,23 @@ pub struct Outcome {
 }
 
 // How far a read has come: as in the outcome.
-#[derive(Clone, Copy)]
+#[derive(Clone, Copy, Default)]
 pub struct Progress {
     pub words: usize,
     pub place: usize,
     pub steps: usize,
+}
+
+impl Progress {
+    // The outcome of a read that has come so far, with this verdict.
+    pub(crate) fn outcome(self, verdict: Verdict) -> Outcome
+        ensures { result ≡ record { verdict = verdict; words = self.words; place = self.place; steps = self.steps } }
+    {
+        Outcome {
+            verdict,
+            words: self.words,
+            place: self.place,
+            steps: self.steps,
+        }
+    }
 }

@@ -31,19 +31,10 @@ pub fn run<S: Source>(
     ensures rest { S.Source.means source.new ≡ after_words result.words (S.Source.means source.old) }
 {
     stacks.clear();
-    let mut progress = Progress {
-        words: 0,
-        place: 0,
-        steps: 0,
-    };
+    let mut progress = Progress::default();
     loop {
         if let Some(verdict) = turn(tables, rules, stacks, source, steps, &mut progress) {
-            return Outcome {
-                verdict,
-                words: progress.words,
-                place: progress.place,
-                steps: progress.steps,
-            };
+            return progress.outcome(verdict);
         }
     }
 }

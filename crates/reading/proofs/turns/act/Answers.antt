@@ -17,7 +17,7 @@ reduce-requires c =
     let ps = stack_of c.args.stacks.now in
     let e : reduce c.in-Reduce.rule ≡ act_in rows (top_state 0 ps) c.args.symbol.code = c.in-Reduce.ensures ∙ ap (λ s. act_in rows s c.args.symbol.code) c.state.ensures in
     let some = c.requires.ready.stacked_some c.args.symbol.code c.in-Reduce.rule (ap move_of (sym e)) in
-    record { sized = c.requires.sized; room = omega (arith, some, c.requires.ready.held); under = c.requires.ready.under; within = c.requires.within }
+    record { room = omega (arith, some, c.requires.ready.held); under = c.requires.ready.under; within = c.requires.within }
 
 pub returns-in-Reduce : goal.returns-in-Reduce
 returns-in-Reduce c =
@@ -32,5 +32,4 @@ returns-in-Reduce c =
           ∙ act_reduce (productions_of c.args.rules.now) rows ending (length steps) (stack_of st) (symbol_of c.args.symbol) (pending_of st) ws p.words p.place (written_in p.steps steps) c.in-Reduce.rule e;
       words = c.reduce.ensures.words;
       listed = c.reduce.ensures.listed;
-      sized = c.reduce.ensures.sized;
     }

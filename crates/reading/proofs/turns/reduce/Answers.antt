@@ -19,7 +19,6 @@ returns-then-at-steps c =
           reduce_full (productions_of c.args.rules.now) next action ending (length steps) c.args.rule (stack_of st) (symbol_of c.args.symbol) (pending_of st) ws p.words p.place (written_in p.steps steps) (omega arith);
       words = refl;
       listed = record { long = refl; back = refl; within = c.requires.within; onward = omega arith };
-      sized = c.requires.sized;
     }
 
 pub returns : goal.returns
@@ -28,23 +27,22 @@ returns c =
     let p = c.args.progress.now in
     let steps = c.args.steps.now in
     let rules = productions_of c.args.rules.now in
-    let f = c.covered-first.result.0 in
-    let w = c.covered-first.result.1 in
+    let f = c.covered-span.result.first in
+    let w = c.covered-span.result.width in
     let room : p.steps < length steps = omega arith in
     let l = written_length steps p.steps c.requires.within in
     let s : Step = record { rule = c.args.rule; first = f; width = w } in
     let x : SpannedSymbol = record { sym_code = (rule_of rules c.args.rule).lhs; first_word = f; word_count = w } in
     let pends : pending_of c.wait-2.new.self ≡ x ∷ symbol_of c.args.symbol ∷ pending_of st =
     c.wait-2.ensures.pending
-    ∙ ap₂ (λ k l. record { sym_code = k; first_word = f; word_count = w } ∷ l) c.left_of.ensures (c.wait.ensures.pending ∙ ap (λ l. symbol_of c.args.symbol ∷ l) c.covered-first.ensures.pending) in
-    let covers : covered (length (rule_of rules c.args.rule).rhs) (stack_of st) 0 0 ≡ (stack_of c.covered-first.new.self, f, w) =
-    ap (λ l. covered (length l) (stack_of st) 0 0) (sym c.right_of.ensures) ∙ c.covered-first.ensures.span in
+    ∙ ap₂ (λ k l. record { sym_code = k; first_word = f; word_count = w } ∷ l) c.left_of.ensures (c.wait.ensures.pending ∙ ap (λ l. symbol_of c.args.symbol ∷ l) c.covered-span.ensures.pending) in
+    let covers : covered (length (rule_of rules c.args.rule).rhs) (stack_of st) 0 0 ≡ (stack_of c.covered-span.new.self, f, w) =
+    ap (λ l. covered (length l) (stack_of st) 0 0) (sym c.right_of.ensures) ∙ c.covered-span.ensures.span in
     record {
       moved = λ next action ending ws.
           ap₂ (λ ps xs. on ps xs ws p.words p.place (written_in (p.steps + 1) (set steps p.steps s))) (c.wait-2.ensures.stack ∙ c.wait.ensures.stack) pends
-          ∙ ap (λ o. on (stack_of c.covered-first.new.self) (x ∷ symbol_of c.args.symbol ∷ pending_of st) ws p.words p.place o) (written_more steps p.steps s room)
-          ∙ reduce_on rules next action ending (length steps) c.args.rule (stack_of st) (symbol_of c.args.symbol) (pending_of st) ws p.words p.place (written_in p.steps steps) (stack_of c.covered-first.new.self, f, w) covers (omega arith);
+          ∙ ap (λ o. on (stack_of c.covered-span.new.self) (x ∷ symbol_of c.args.symbol ∷ pending_of st) ws p.words p.place o) (written_more steps p.steps s room)
+          ∙ reduce_on rules next action ending (length steps) c.args.rule (stack_of st) (symbol_of c.args.symbol) (pending_of st) ws p.words p.place (written_in p.steps steps) (stack_of c.covered-span.new.self, f, w) covers (omega arith);
       words = refl;
       listed = record { long = length-set steps p.steps s; back = drop-set-lt (p.steps + 1) steps p.steps s (omega arith); within = omega arith; onward = omega arith };
-      sized = c.wait-2.ensures.sized;
     }

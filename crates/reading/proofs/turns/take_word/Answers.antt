@@ -14,7 +14,6 @@ returns-then-first-ge-MOST_WORDS g c =
       moved = λ rules next action cap out. taken_long rules next action cap out (stack_of c.args.stacks.now) p.words p.place s t c.in-Word.ensures.answer (omega arith);
       left = λ all h. one_less s (g.S.Source.means c.take.new.self) all p.words c.in-Word.ensures.rest h;
       steps = refl;
-      sized = c.requires.sized;
     }
 
 pub returns-else-first-ge-MOST_WORDS : goal.returns-else-first-ge-MOST_WORDS
@@ -30,5 +29,4 @@ returns-else-first-ge-MOST_WORDS g c =
           ∙ taken_word rules next action cap out (stack_of c.args.stacks.now) p.words p.place s rest t c.in-Word.ensures.answer c.in-Word.ensures.rest (omega arith);
       left = λ all h. one_less s rest all p.words c.in-Word.ensures.rest h;
       steps = refl;
-      sized = c.wait.ensures.sized;
     }

@@ -23,5 +23,4 @@ returns-in-Some g c =
           ∙ ap (λ xs. turn_from rules 0 (next_in rows) (action_in rows) s.ending (length steps) (stack_of st) xs s.tokens p.words p.place (written_in p.steps steps)) (sym c.in-Some.ensures.pending);
       left = λ all h. h ∙ ap (λ n. after_words n all) (sym c.act.ensures.words);
       listed = c.act.ensures.listed;
-      sized = c.act.ensures.sized;
     }
