@@ -24,5 +24,6 @@ pub mod Ended
 pub mod Granted
 pub mod Built
 mod Downs
-mod Turning
+mod Remaining
 mod Running
+mod Underway

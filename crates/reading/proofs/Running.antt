@@ -7,7 +7,7 @@ use Rattle.book.specs.Answers.{granted}
 use Rattle.book.specs.declared.rules.Rule.{Rule}
 use Rattle.book.specs.Held.{productions_of}
 use Rattle.book.specs.Rules.{Production, all_bounded}
-use Rattle.source.specs.Streams.{Token, Stream, Ending, all_terminals}
+use Rattle.source.specs.Streams.{Token, Stream, all_terminals}
 use Rattle.grammar.specs.Build.{Act, build_says}
 use Rattle.grammar.specs.Laws.{Lawful}
 use Rattle.grammar.specs.Lookahead.{Policy}
@@ -130,11 +130,6 @@ module _ (rules : List Production) (rows : List (List Act)) (cap : ℕ) (s : Str
         omega arith
 
   -- a turn with another name for the ending and for the room
-  pub turn_as : (e : Ending) (k : ℕ) (ps : List StackedSymbol) (xs : List SpannedSymbol) (ws : List Token) (n pl : ℕ) (out : List StepOfNode) → e ≡ s.ending → k ≡ cap
-      → turn_from rules 0 (next_in rows) (action_in rows) e k ps xs ws n pl out ≡ turns ps xs ws n pl out
-  turn_as e k ps xs ws n pl out p q =
-      ap (λ z. turn_from rules 0 (next_in rows) (action_in rows) z k ps xs ws n pl out) p ∙ ap (λ z. turn_from rules 0 (next_in rows) (action_in rows) s.ending z ps xs ws n pl out) q
-
   -- the read goes on from here, and what it then answers is its answer
   pub record Going (ps : List StackedSymbol) (xs : List SpannedSymbol) (ws : List Token) (n pl : ℕ) (out : List StepOfNode) : Type 0 where
     pub alive : ∥ Alive ps xs ws n pl out ∥₁

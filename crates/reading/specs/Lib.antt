@@ -8,3 +8,4 @@ pub mod Down
 pub mod Held
 pub mod Told
 pub mod Cases
+pub mod Underway

@@ -49,10 +49,3 @@ pub record Ready (rows : List (List Act)) (ps : List StackedSymbol) (xs : List S
   pub under : words_under ps ≤ most_words
   pub few : n ≤ most_words
   pub stacked_some : (x r : ℕ) → action_in rows (top_state 0 ps) x ≡ Some (reduces r) → 1 ≤ length ps
-
--- what a turn leaves of the lent list: as many places, those past the steps written as they were
-pub record Listing (before after : List Step) (p q : Progress) : Type 0 where
-  pub long : length after ≡ length before
-  pub back : drop q.steps after ≡ drop q.steps before
-  pub within : q.steps ≤ length before
-  pub onward : p.steps ≤ q.steps

@@ -8,9 +8,9 @@ ghost use Rattle.reading.specs.Promise.{Kept};
 ghost use Rattle.reading.specs.Building.{Belonging};
 ghost use Rattle.reading.specs.Told.{answer_of, after_words};
 
-use crate::outcomes::{Outcome, Progress, Step};
+use crate::outcomes::{Outcome, Step};
 use crate::piles::Stacks;
-use crate::turns::turn;
+use crate::turns::Read;
 use book::rules::Rule;
 use source::sources::Source;
 use tables::building::Tables;
@@ -30,11 +30,10 @@ pub fn run<S: Source>(
     ensures back { drop result.steps steps.new ≡ drop result.steps steps.old }
     ensures rest { S.Source.means source.new ≡ after_words result.words (S.Source.means source.old) }
 {
-    stacks.clear();
-    let mut progress = Progress::default();
+    let mut read = Read::new(tables, rules, stacks, source, steps);
     loop {
-        if let Some(verdict) = turn(tables, rules, stacks, source, steps, &mut progress) {
-            return progress.outcome(verdict);
+        if let Some(verdict) = read.turn() {
+            return read.progress.outcome(verdict);
         }
     }
 }

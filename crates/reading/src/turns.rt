@@ -1,15 +1,11 @@
-// The turns of a read.
-ghost use Rattle.std.specs.Prelude.{◌≡◌, ℕ, ◌+◌, ◌≤◌, List, [], ◌∷◌, length, Some, Option};
-ghost use Rattle.book.specs.Held.{productions_of};
-ghost use Rattle.book.specs.Rules.{Production};
-ghost use Rattle.source.specs.Streams.{Token, Stream, Ending};
-ghost use Rattle.grammar.specs.Meaning.{Move, reduces};
+// A read under way, and its turns.
+ghost use Rattle.std.specs.Prelude.{◌≡◌, ◌+◌, ◌≤◌, [], ◌∷◌, length, Some};
+ghost use Rattle.source.specs.Streams.{Stream};
+ghost use Rattle.grammar.specs.Meaning.{reduces};
 ghost use Rattle.tables.specs.Built.{table_of};
-ghost use Rattle.reading.specs.Trees.{StepOfNode};
-ghost use Rattle.reading.specs.Tables.{next_in, action_in};
-ghost use Rattle.reading.specs.Reading.{most_words, top_state, acting, turn_from};
+ghost use Rattle.reading.specs.Reading.{most_words};
 ghost use Rattle.reading.specs.Held.{symbol_of, stack_of, pending_of, most_held, words_under};
-ghost use Rattle.reading.specs.Told.{written_in, turned_by, after_words, Ready, Listing};
+ghost use Rattle.reading.specs.Told.{after_words, Ready};
 
 use crate::outcomes::{Progress, Step, Verdict};
 use crate::piles::{Span, Stacks, Symbol};
@@ -22,129 +18,150 @@ use tables::building::Tables;
 // How many words a read takes at the most.
 pub const MOST_WORDS: usize = 1000;
 
-// With no symbol pending a word is taken, or the ending, which counts as the end mark if it is clean.
-fn take_word<S: Source>(
-    stacks: &mut Stacks,
-    source: &mut S,
-    progress: &mut Progress,
-) -> Option<Verdict>
-    requires none { pending_of stacks.old ≡ [] }
-    requires few { progress.old.words ≤ most_words }
-    ensures moved { (rules : List Production) (next : ℕ → ℕ → ℕ) (action : ℕ → ℕ → Option Move) (cap : ℕ) (out : List StepOfNode) → turned_by result stacks.new (S.Source.means source.new).tokens progress.new out ≡ turn_from rules 0 next action (S.Source.means source.old).ending cap (stack_of stacks.old) [] (S.Source.means source.old).tokens progress.old.words progress.old.place out }
-    ensures left { (s : Stream) → S.Source.means source.old ≡ after_words progress.old.words s → S.Source.means source.new ≡ after_words progress.new.words s }
-    ensures steps { progress.new.steps ≡ progress.old.steps }
-{
-    match source.take() {
-        Taken::Word { code, place } => {
-            let first = progress.words;
-            progress.words = first + 1;
-            progress.place = place;
-            if first >= MOST_WORDS {
-                return Some(Verdict::TooLong);
+// A read under way: what it goes by, what it was lent, and how far it has come.
+#[derive(Drop)]
+pub(crate) struct Read<'a, S> {
+    pub(crate) tables: &'a Tables,
+    pub(crate) rules: &'a [Rule],
+    pub(crate) stacks: &'a mut Stacks,
+    pub(crate) source: &'a mut S,
+    pub(crate) steps: &'a mut [Step],
+    pub(crate) progress: Progress,
+    ghost within: { progress.steps ≤ length steps.now },
+}
+
+impl<'a, S: Source> Read<'a, S> {
+    ghost use Rattle.reading.specs.Underway.{turn_of, act_of, action_of, led_to, Onward};
+
+    // A read that has taken nothing.
+    pub(crate) fn new(
+        tables: &'a Tables,
+        rules: &'a [Rule],
+        stacks: &'a mut Stacks,
+        source: &'a mut S,
+        steps: &'a mut [Step],
+    ) -> Self
+        ensures tables { result.tables.now ≡ tables.now }
+        ensures rules { result.rules.now ≡ rules.now }
+        ensures stack { stack_of result.stacks.now ≡ [] }
+        ensures pending { pending_of result.stacks.now ≡ [] }
+        ensures source { result.source.now ≡ source.old }
+        ensures steps { result.steps.now ≡ steps.old }
+        ensures progress { result.progress ≡ record { words = 0; place = 0; steps = 0 } }
+        ensures lent { (result.stacks.ghost_name ≡ stacks.entry.ghost_name) × (result.source.ghost_name ≡ source.entry.ghost_name) × (result.steps.ghost_name ≡ steps.entry.ghost_name) }
+    {
+        stacks.clear();
+        Read {
+            tables,
+            rules,
+            stacks,
+            source,
+            steps,
+            progress: Progress::default(),
+        }
+    }
+
+    // One turn. It leads to a verdict, or the read goes on.
+    pub(crate) fn turn(&mut self) -> Option<Verdict>
+        requires ready { Ready (table_of self.old.tables.now) (stack_of self.old.stacks.now) (pending_of self.old.stacks.now) self.old.progress.words }
+        ensures moved { led_to result self.new (S.Source.means self.new.source.now) ≡ turn_of self.old (S.Source.means self.old.source.now) }
+        ensures left { (s : Stream) → S.Source.means self.old.source.now ≡ after_words self.old.progress.words s → S.Source.means self.new.source.now ≡ after_words self.new.progress.words s }
+        ensures onward { Onward self.old self.new }
+    {
+        match self.stacks.next() {
+            Some(symbol) => self.act(symbol),
+            None => self.take_word(),
+        }
+    }
+
+    // With no symbol pending a word is taken, or the ending, which counts as the end mark if it is clean.
+    fn take_word(&mut self) -> Option<Verdict>
+        requires none { pending_of self.old.stacks.now ≡ [] }
+        requires few { self.old.progress.words ≤ most_words }
+        ensures moved { led_to result self.new (S.Source.means self.new.source.now) ≡ turn_of self.old (S.Source.means self.old.source.now) }
+        ensures left { (s : Stream) → S.Source.means self.old.source.now ≡ after_words self.old.progress.words s → S.Source.means self.new.source.now ≡ after_words self.new.progress.words s }
+        ensures onward { Onward self.old self.new }
+    {
+        match self.source.take() {
+            Taken::Word { code, place } => {
+                let first = self.progress.words;
+                self.progress.words = first + 1;
+                self.progress.place = place;
+                if first >= MOST_WORDS {
+                    return Some(Verdict::TooLong);
+                }
+                self.stacks.wait(Symbol {
+                    code,
+                    span: Span { first, width: 1 },
+                });
+                None
             }
-            stacks.wait(Symbol {
-                code,
-                span: Span { first, width: 1 },
-            });
-            None
-        }
-        Taken::Clean { place } => {
-            progress.place = place;
-            stacks.wait(Symbol {
-                code: 0,
-                span: Span {
-                    first: progress.words,
-                    width: 0,
-                },
-            });
-            None
-        }
-        Taken::Fault { number, place } => {
-            progress.place = place;
-            Some(Verdict::Fault { number, place })
+            Taken::Clean { place } => {
+                self.progress.place = place;
+                self.stacks.wait(Symbol {
+                    code: 0,
+                    span: Span {
+                        first: self.progress.words,
+                        width: 0,
+                    },
+                });
+                None
+            }
+            Taken::Fault { number, place } => {
+                self.progress.place = place;
+                Some(Verdict::Fault { number, place })
+            }
         }
     }
-}
 
-// A reduce: the symbols of a right side are unstacked, the left side is pending before the symbol, and the step is written if the list has a place left.
-fn reduce(
-    rules: &[Rule],
-    stacks: &mut Stacks,
-    symbol: Symbol,
-    rule: u8,
-    steps: &mut [Step],
-    progress: &mut Progress,
-) -> Option<Verdict>
-    requires room { length (pending_of stacks.old) + 2 ≤ most_held }
-    requires under { words_under (stack_of stacks.old) ≤ most_words }
-    requires within { progress.old.steps ≤ length steps.old }
-    ensures moved { (next : ℕ → ℕ → ℕ) (action : ℕ → ℕ → Option Move) (ending : Ending) (ws : List Token) → turned_by result stacks.new ws progress.new (written_in progress.new.steps steps.new) ≡ acting (productions_of rules.now) 0 next action ending (length steps.old) (Some (reduces rule)) (stack_of stacks.old) (symbol_of symbol) (pending_of stacks.old) ws progress.old.words progress.old.place (written_in progress.old.steps steps.old) }
-    ensures words { progress.new.words ≡ progress.old.words }
-    ensures listed { Listing steps.old steps.new progress.old progress.new }
-{
-    let at = progress.steps;
-    if at >= steps.len() {
-        return Some(Verdict::ListFull);
-    }
-    let number = rule as usize;
-    let span = stacks.covered(right_of(rules, number).len());
-    stacks.wait(symbol);
-    stacks.wait(Symbol {
-        code: left_of(rules, number),
-        span,
-    });
-    steps[at] = Step {
-        rule,
-        first: span.first,
-        width: span.width,
-    };
-    progress.steps = at + 1;
-    None
-}
-
-// The action of the top state at a symbol is done.
-fn act(
-    tables: &Tables,
-    rules: &[Rule],
-    stacks: &mut Stacks,
-    symbol: Symbol,
-    steps: &mut [Step],
-    progress: &mut Progress,
-) -> Option<Verdict>
-    requires ready { Ready (table_of tables.now) (stack_of stacks.old) (symbol_of symbol ∷ pending_of stacks.old) progress.old.words }
-    requires within { progress.old.steps ≤ length steps.old }
-    ensures moved { (ending : Ending) (ws : List Token) → turned_by result stacks.new ws progress.new (written_in progress.new.steps steps.new) ≡ acting (productions_of rules.now) 0 (next_in (table_of tables.now)) (action_in (table_of tables.now)) ending (length steps.old) (action_in (table_of tables.now) (top_state 0 (stack_of stacks.old)) symbol.code) (stack_of stacks.old) (symbol_of symbol) (pending_of stacks.old) ws progress.old.words progress.old.place (written_in progress.old.steps steps.old) }
-    ensures words { progress.new.words ≡ progress.old.words }
-    ensures listed { Listing steps.old steps.new progress.old progress.new }
-{
-    match tables.action(stacks.state() as usize, symbol.code) {
-        Action::None => Some(Verdict::NoTree),
-        Action::Accept => Some(Verdict::Accepted),
-        Action::Shift(state) => {
-            stacks.push(symbol, state);
-            None
+    // The action of the top state at a symbol is done.
+    fn act(&mut self, symbol: Symbol) -> Option<Verdict>
+        requires ready { Ready (table_of self.old.tables.now) (stack_of self.old.stacks.now) (symbol_of symbol ∷ pending_of self.old.stacks.now) self.old.progress.words }
+        ensures moved { led_to result self.new (S.Source.means self.new.source.now) ≡ act_of self.old (S.Source.means self.old.source.now) (action_of self.old symbol.code) (symbol_of symbol) }
+        ensures source { self.new.source.now ≡ self.old.source.now }
+        ensures words { self.new.progress.words ≡ self.old.progress.words }
+        ensures onward { Onward self.old self.new }
+    {
+        match self
+            .tables
+            .action(self.stacks.state() as usize, symbol.code)
+        {
+            Action::None => Some(Verdict::NoTree),
+            Action::Accept => Some(Verdict::Accepted),
+            Action::Shift(state) => {
+                self.stacks.push(symbol, state);
+                None
+            }
+            Action::Reduce(rule) => self.reduce(symbol, rule),
         }
-        Action::Reduce(rule) => reduce(rules, stacks, symbol, rule, steps, progress),
     }
-}
 
-// One turn of a read. It leads to a verdict, or the read goes on.
-pub(crate) fn turn<S: Source>(
-    tables: &Tables,
-    rules: &[Rule],
-    stacks: &mut Stacks,
-    source: &mut S,
-    steps: &mut [Step],
-    progress: &mut Progress,
-) -> Option<Verdict>
-    requires ready { Ready (table_of tables.now) (stack_of stacks.old) (pending_of stacks.old) progress.old.words }
-    requires within { progress.old.steps ≤ length steps.old }
-    ensures moved { turned_by result stacks.new (S.Source.means source.new).tokens progress.new (written_in progress.new.steps steps.new) ≡ turn_from (productions_of rules.now) 0 (next_in (table_of tables.now)) (action_in (table_of tables.now)) (S.Source.means source.old).ending (length steps.old) (stack_of stacks.old) (pending_of stacks.old) (S.Source.means source.old).tokens progress.old.words progress.old.place (written_in progress.old.steps steps.old) }
-    ensures left { (s : Stream) → S.Source.means source.old ≡ after_words progress.old.words s → S.Source.means source.new ≡ after_words progress.new.words s }
-    ensures listed { Listing steps.old steps.new progress.old progress.new }
-{
-    match stacks.next() {
-        Some(symbol) => act(tables, rules, stacks, symbol, steps, progress),
-        None => take_word(stacks, source, progress),
+    // A reduce: the symbols of a right side are unstacked, the left side is pending before the symbol, and the step is written if the list has a place left.
+    fn reduce(&mut self, symbol: Symbol, rule: u8) -> Option<Verdict>
+        requires room { length (pending_of self.old.stacks.now) + 2 ≤ most_held }
+        requires under { words_under (stack_of self.old.stacks.now) ≤ most_words }
+        ensures moved { led_to result self.new (S.Source.means self.new.source.now) ≡ act_of self.old (S.Source.means self.old.source.now) (Some (reduces rule)) (symbol_of symbol) }
+        ensures source { self.new.source.now ≡ self.old.source.now }
+        ensures words { self.new.progress.words ≡ self.old.progress.words }
+        ensures onward { Onward self.old self.new }
+    {
+        let at = self.progress.steps;
+        if at >= self.steps.len() {
+            return Some(Verdict::ListFull);
+        }
+        let number = rule as usize;
+        let span = self.stacks.covered(right_of(self.rules, number).len());
+        self.stacks.wait(symbol);
+        self.stacks.wait(Symbol {
+            code: left_of(self.rules, number),
+            span,
+        });
+        self.steps[at] = Step {
+            rule,
+            first: span.first,
+            width: span.width,
+        };
+        self.progress.steps = at + 1;
+        None
     }
 }
