@@ -1,35 +1,29 @@
 -- What the code's actions and rows stand for.
-use Rattle.std.specs.Prelude.{◌≡◌, ℕ, ◌+◌, true, false, List, [], ◌∷◌, map, Ok, Err, Result}
-use Rattle.std.specs.declared.option.Option as option
-use Rattle.std.specs.declared.option.Option.TheVariants as options
+use Rattle.std.specs.Prelude.{◌≡◌, ℕ, ◌+◌, true, false, List, [], ◌∷◌, map, Some, None, Option, Ok, Err, Result}
 use Rattle.book.specs.Rules.{Production}
 use Rattle.grammar.specs.Sets.{Flags, has}
 use Rattle.grammar.specs.Items.{Items, onward}
 use Rattle.grammar.specs.States.{number_of}
-use Rattle.grammar.specs.Build.{Act, nothing, accept, shift, reduce, conflict, beside, reduce_by, is_conflict, conflict_in}
+use Rattle.grammar.specs.Build.{Act, nothing, accept, shift, reduce, conflict, beside, reduce_by, conflict_in}
 use Rattle.grammar.specs.Lookahead.{Look, lookahead_of}
 use Rattle.tables.specs.declared.actions.Action.{Action}
-use Rattle.tables.specs.declared.actions.Action.TheVariants.{None, Accept, Shift, Reduce}
-use Rattle.tables.specs.declared.actions.Cell.{Cell}
-use Rattle.tables.specs.declared.actions.Cell.TheVariants as cells
+use Rattle.tables.specs.declared.actions.Action.TheVariants.{Accept, Shift, Reduce}
+use Rattle.tables.specs.declared.actions.Conflict.{Conflict}
 use Rattle.tables.specs.declared.actions.Row.{Row}
 
-abbrev pub act_of : Action → Act
+abbrev pub act_of : Option Action → Act
 act_of None = nothing
-act_of Accept = accept
-act_of (Shift k) = shift k
-act_of (Reduce r) = reduce r
+act_of (Some Accept) = accept
+act_of (Some (Shift k)) = shift k
+act_of (Some (Reduce r)) = reduce r
 
 abbrev pub acts_of : Row → List Act
 acts_of row = map act_of row.actions
 
 -- a cell of a row in the making
-abbrev pub cell_act : Cell → Act
-cell_act cells.Free = nothing
-cell_act cells.Accept = accept
-cell_act (cells.Shift k) = shift k
-cell_act (cells.Reduce r) = reduce r
-cell_act cells.Conflict = conflict
+abbrev pub cell_act : Result (Option Action) Conflict → Act
+cell_act (Ok action) = act_of action
+cell_act (Err _) = conflict
 
 -- the shift at x of a state with these items and reads, or nothing
 abbrev pub shift_at : List Items → List Production → Items → Flags → ℕ → Act
@@ -43,13 +37,8 @@ besides a (b ∷ bs) (c ∷ row) = elim b [ true ↦ beside c a | false ↦ c ] 
 
 -- a row without a conflict, or the lowest symbol in conflict
 abbrev pub Settled : List Act → Result Row ℕ → Type 0
-Settled acts (Ok row) = (conflict_in 0 acts ≡ options.None) × (acts_of row ≡ acts)
-Settled acts (Err x) = conflict_in 0 acts ≡ options.Some x
-
--- the action that a cell stands for, or none at a conflict
-abbrev pub Chosen : Act → option.Option Action → Type 0
-Chosen act (options.Some a) = (act_of a ≡ act) × (is_conflict act ≡ false)
-Chosen act options.None = is_conflict act ≡ true
+Settled acts (Ok row) = (conflict_in 0 acts ≡ None) × (acts_of row ≡ acts)
+Settled acts (Err x) = conflict_in 0 acts ≡ Some x
 
 -- a row after these complete rules in turn
 abbrev pub reduced : Look → List ℕ → List Act → List Act

@@ -8,7 +8,7 @@ ghost use Rattle.grammar.specs.Lookahead.{lookahead_of};
 ghost use Rattle.grammar.specs.Relating.{related_by};
 ghost use Rattle.grammar.specs.Sets.{codes, symbol_count};
 ghost use Rattle.grammar.specs.States.{most_states};
-ghost use Rattle.tables.specs.Acts.{act_of, acts_of, cell_act, shift_at, besides, Settled, Chosen, reduced};
+ghost use Rattle.tables.specs.Acts.{act_of, acts_of, cell_act, shift_at, besides, Settled, reduced};
 ghost use Rattle.tables.specs.Kept.{lines_of, rows_for, held_in};
 
 use crate::kernels::{Kernels, number_of};
@@ -20,44 +20,35 @@ use grammar::lookaheads::Lookahead;
 use grammar::relations::RelationSets;
 use grammar::sets::{SYMBOLS, SymbolSet};
 
-#[derive(Clone, Copy)]
+#[derive(Clone, Copy, PartialEq, Debug)]
 pub enum Action {
-    None,
     Accept,
     Shift(u8),
     Reduce(u8),
 }
 
-// The actions of a state, one for each symbol.
+// What a state does at each symbol, if anything.
 #[derive(Clone, Copy)]
 pub struct Row {
-    pub actions: [Action; SYMBOLS],
+    pub actions: [Option<Action>; SYMBOLS],
 }
 
 impl Row {
     // The action at a symbol; there is none past the last.
-    pub fn at(&self, symbol: u8) -> Action
-        ensures { act_of result ≡ slice_index_or (acts_of self.now) symbol nothing }
+    pub fn at(&self, symbol: u8) -> Option<Action>
+        ensures value { act_of result ≡ slice_index_or (acts_of self.now) symbol nothing }
+        ensures past { symbol_count ≤ symbol → result ≡ None }
     {
-        let actions = &self.actions[0..SYMBOLS];
-        let x = symbol as usize;
-        if x < SYMBOLS {
-            actions[x]
-        } else {
-            Action::None
-        }
+        *self.actions.get(symbol as usize)?
     }
 }
 
-// A place of a row in the making: two actions that apply are a conflict.
-#[derive(Clone, Copy)]
-pub enum Cell {
-    Free,
-    Accept,
-    Shift(u8),
-    Reduce(u8),
-    Conflict,
-}
+// Two actions apply at a symbol.
+#[derive(Clone, Copy, PartialEq, Debug)]
+pub struct Conflict;
+
+// A place of a row in the making.
+pub type Cell = Result<Option<Action>, Conflict>;
 
 pub type Cells = [Cell; SYMBOLS];
 
@@ -66,27 +57,9 @@ fn beside(cell: Cell, number: u8) -> Cell
     ensures { cell_act result ≡ beside (cell_act cell) (reduce_by number) }
 {
     match cell {
-        Cell::Free => {
-            if number == 0 {
-                Cell::Accept
-            } else {
-                Cell::Reduce(number)
-            }
-        }
-        _ => Cell::Conflict,
-    }
-}
-
-// The action of a cell that is not in conflict.
-fn action_of(cell: Cell) -> Option<Action>
-    ensures { Chosen (cell_act cell) result }
-{
-    match cell {
-        Cell::Free => Some(Action::None),
-        Cell::Accept => Some(Action::Accept),
-        Cell::Shift(k) => Some(Action::Shift(k)),
-        Cell::Reduce(r) => Some(Action::Reduce(r)),
-        Cell::Conflict => None,
+        Ok(None) if number == 0 => Ok(Some(Action::Accept)),
+        Ok(None) => Ok(Some(Action::Reduce(number))),
+        _ => Err(Conflict),
     }
 }
 
@@ -94,11 +67,11 @@ fn action_of(cell: Cell) -> Option<Action>
 fn settle(cells: &Cells) -> Result<Row, u8>
     ensures { Settled (map cell_act cells.now) result }
 {
-    let mut actions = [Action::None; SYMBOLS];
-    for x in 0..SYMBOLS {
-        match action_of(cells[x]) {
-            Some(action) => actions[x] = action,
-            None => return Err(x as u8),
+    let mut actions = [None; SYMBOLS];
+    for (x, cell) in cells.iter().enumerate() {
+        match cell {
+            Ok(action) => actions[x] = *action,
+            Err(Conflict) => return Err(x as u8),
         }
     }
     Ok(Row { actions })
@@ -120,11 +93,11 @@ fn shift_over(
     ensures { cell_act result ≡ shift_at (held_in (length items.now) m kernels.now) (lines_of rules.now) items.now set.now x }
 {
     if !set[x] {
-        return Cell::Free;
+        return Ok(None);
     }
     let n = items.len();
     let kernel = onward(rules, items, x as u8);
-    Cell::Shift(number_of(kernels, m, &kernel[0..n]) as u8)
+    Ok(Some(Action::Shift(number_of(kernels, m, &kernel[0..n]) as u8)))
 }
 
 // The shifts of a state with these items.
@@ -135,7 +108,7 @@ fn shifts(kernels: &Kernels, m: usize, rules: &[Rule], items: &[DotRow]) -> Cell
     ensures { map cell_act result ≡ map (shift_at (held_in (length items.now) m kernels.now) (lines_of rules.now) items.now (reads (lines_of rules.now) items.now)) codes }
 {
     let set = reads(rules, items);
-    let mut cells = [Cell::Free; SYMBOLS];
+    let mut cells = [Ok(None); SYMBOLS];
     for x in 0..SYMBOLS {
         cells[x] = shift_over(kernels, m, rules, items, &set, x);
     }
@@ -146,9 +119,9 @@ fn shifts(kernels: &Kernels, m: usize, rules: &[Rule], items: &[DotRow]) -> Cell
 fn reduce_by(cells: &mut Cells, ahead: &SymbolSet, number: u8)
     ensures { map cell_act cells.new ≡ besides (reduce_by number) ahead.now (map cell_act cells.old) }
 {
-    for x in 0..SYMBOLS {
+    for (x, cell) in cells.iter_mut().enumerate() {
         if ahead[x] {
-            cells[x] = beside(cells[x], number);
+            *cell = beside(*cell, number);
         }
     }
 }

@@ -55,7 +55,7 @@ impl Tables {
     {
         Tables {
             rows: [Row {
-                actions: [Action::None; SYMBOLS],
+                actions: [None; SYMBOLS],
             }; MOST_STATES],
             size: Size { states: 0 },
         }
@@ -141,15 +141,10 @@ impl Tables {
     }
 
     // The action of a state at a symbol; there is none at what is no state or no symbol.
-    pub fn action(&self, state: usize, symbol: u8) -> Action
+    pub fn action(&self, state: usize, symbol: u8) -> Option<Action>
         ensures { act_of result ≡ act_in (table_of self.now) state symbol }
     {
-        let rows = self.rows();
-        let x = symbol as usize;
-        if state >= rows.len() || x >= SYMBOLS {
-            return Action::None;
-        }
-        rows[state].actions[x]
+        self.rows().get(state)?.at(symbol)
     }
 
     // Writes the row of a state as numbers at the start of a buffer, and answers how many they are.

@@ -4,7 +4,6 @@ ghost use Rattle.grammar.specs.Sets.{symbol_count};
 ghost use Rattle.tables.specs.Acts.{act_of, acts_of, word_of};
 
 use crate::actions::{Action, Row};
-use grammar::sets::SYMBOLS;
 
 const ACCEPT: u16 = 1;
 
@@ -13,14 +12,14 @@ const SHIFT: u16 = 1000;
 const REDUCE: u16 = 2000;
 
 // 0 for none, 1 for accept, 1000 and the state for a shift, 2000 and the rule for a reduction.
-pub fn word_of(action: Action) -> u16
+pub fn word_of(action: Option<Action>) -> u16
     ensures { result ≡ word_of (act_of action) }
 {
     match action {
-        Action::None => 0,
-        Action::Accept => ACCEPT,
-        Action::Shift(state) => SHIFT + state as u16,
-        Action::Reduce(rule) => REDUCE + rule as u16,
+        None => 0,
+        Some(Action::Accept) => ACCEPT,
+        Some(Action::Shift(state)) => SHIFT + state as u16,
+        Some(Action::Reduce(rule)) => REDUCE + rule as u16,
     }
 }
 
@@ -29,8 +28,5 @@ pub(crate) fn encode(row: &Row, out: &mut [u16])
     requires { length out.old ≡ symbol_count }
     ensures { out.new ≡ map word_of (acts_of row.now) }
 {
-    let actions = &row.actions[0..SYMBOLS];
-    for x in 0..SYMBOLS {
-        out[x] = word_of(actions[x]);
-    }
+    out.copy_from_slice(&row.actions.map(word_of));
 }

@@ -5,7 +5,9 @@ use Rattle.tables.specs.Acts.{cell_act, besides}
 use Rattle.tables.proofs.actions.reduce_by.Given as goal
 
 abbrev pub invariant-loop-x : goal.invariant-loop-x
-invariant-loop-x l =
-    (length l.cells ≡ symbol_count)
-    × (take l.x (map cell_act l.cells) ++ besides (reduce_by l.number) (drop l.x l.ahead) (drop l.x (map cell_act l.cells))
-    ≡ besides (reduce_by l.number) l.ahead (map cell_act l.initial.cells))
+invariant-loop-x l = record {
+  long : length l.cells ≡ symbol_count;
+  left :
+      take l.x (map cell_act l.cells) ++ besides (reduce_by l.number) (drop l.x l.ahead) (drop l.x (map cell_act l.cells))
+      ≡ besides (reduce_by l.number) l.ahead (map cell_act l.initial.cells);
+}
