@@ -5,17 +5,16 @@ use book::books::Book;
 use grammar::lookaheads::{LeftmostFollow, Lookahead, SlrIfAdequate};
 use std::time::Instant;
 use std::{env, io};
-use tables::actions::{Action, Row};
+use tables::actions::Row;
 use tables::building::Tables;
 
 // How many actions there are in a row.
 fn actions_in(row: &Row) -> usize {
     let mut count = 0usize;
     for x in 0..81u8 {
-        if let Action::None = row.at(x) {
-            continue;
+        if row.at(x).is_some() {
+            count = count.saturating_add(1);
         }
-        count = count.saturating_add(1);
     }
     count
 }

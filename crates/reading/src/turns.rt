@@ -126,13 +126,13 @@ impl<'a, S: Source> Read<'a, S> {
             .tables
             .action(self.stacks.state() as usize, symbol.code)
         {
-            Action::None => Some(Verdict::NoTree),
-            Action::Accept => Some(Verdict::Accepted),
-            Action::Shift(state) => {
+            None => Some(Verdict::NoTree),
+            Some(Action::Accept) => Some(Verdict::Accepted),
+            Some(Action::Shift(state)) => {
                 self.stacks.push(symbol, state);
                 None
             }
-            Action::Reduce(rule) => self.reduce(symbol, rule),
+            Some(Action::Reduce(rule)) => self.reduce(symbol, rule),
         }
     }
 
