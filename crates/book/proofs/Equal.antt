@@ -18,8 +18,10 @@ same_equal p q e =
 pub same_self : (p : Production) → same_rule p p ≡ true
 same_self p = and_from _ _ (eq-eqb p.lhs p.lhs refl) ((bytes_eq-Decides p.rhs p.rhs).1 refl)
 
-joined : (m n : ℕ) (xs ys : List ℕ) → take m xs ≡ take n ys → drop m xs ≡ drop n ys → xs ≡ ys
-joined m n xs ys front back = sym (take-append-drop m xs) ∙ ap₂ ◌++◌ front back ∙ take-append-drop n ys
+padded_from : (m n : ℕ) (xs ys : List ℕ) → m ≡ n → take m xs ≡ take n ys → drop m xs ≡ replicate (longest_right - m) 0 → drop n ys ≡ replicate (longest_right - n) 0 → xs ≡ ys
+padded_from m n xs ys same front px py =
+    let past : drop m xs ≡ drop n ys = px ∙ ap (λ k. replicate (longest_right - k) 0) same ∙ sym py in
+    sym (take-append-drop m xs) ∙ ap₂ ◌++◌ front past ∙ take-append-drop n ys
 
 -- the places past the sides are 0, so the sides are all of a rule
 module _ (r s : Rule) where
@@ -33,8 +35,7 @@ module _ (r s : Rule) where
   from_sides e =
       let side : take r.len r.right ≡ take s.len s.right = ap (λ (p : Production). p.rhs) e in
       let len : r.len ≡ s.len = omega (arith, simp length-take at (ap length side), r.short, s.short, r.whole, s.whole) in
-      let pad : drop r.len r.right ≡ drop s.len s.right = r.padded ∙ ap (λ n. replicate (longest_right - n) 0) len ∙ sym s.padded in
-      let right : r.right ≡ s.right = joined r.len s.len r.right s.right side pad in
+      let right : r.right ≡ s.right = padded_from r.len s.len r.right s.right len side r.padded s.padded in
       and_from _ _ (eq-eqb r.left s.left (ap (λ (p : Production). p.lhs) e)) (and_from _ _ (eq-eqb r.len s.len len) ((bytes_eq-Decides r.right s.right).1 right))
 
   equal_same : (eqb r.left s.left && (eqb r.len s.len && bytes_eq r.right s.right)) ≡ same_rule (production_of r) (production_of s)

@@ -19,6 +19,7 @@ pub struct Counts {
     rules: usize,
 }
 
+// Stays an array with a count beside it: memory is fixed, and a later guard is to hold the count alone.
 #[derive(Drop)]
 pub struct Book {
     rules: [Rule; MOST_RULES],

@@ -91,6 +91,7 @@ impl TryFrom<u8> for Kind {
 }
 
 // Writes bytes at a place, and answers the place past them.
+// Stays with the place beside the buffer: a writer that holds the `&mut` would owe what it writes back at each call.
 fn put(out: &mut [u8], at: usize, bytes: &[u8]) -> usize
     requires { at + length bytes.now ≤ length out.old }
     ensures next { result ≡ at + length bytes.now }

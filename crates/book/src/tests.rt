@@ -31,7 +31,7 @@ fn saves_as(rt: &impl Abort, book: &Book, bytes: &[u8]) -> Result<(), Fail> {
     let mut out = [255; LONGEST_FILE];
     let n = book.save(&mut out)?;
     assert!(rt; n <= LONGEST_FILE);
-    assert!(rt; &out[0..n] == bytes);
+    assert!(rt; &out[..n] == bytes);
     Ok(())
 }
 
@@ -95,8 +95,8 @@ fn strikes(rt: HostRuntime) -> Result<(), Fail> {
 fn cut_files(rt: HostRuntime) -> Result<(), Fail> {
     let places = [0, 0, 0, 3, 3, 3, 3, 7, 7, 7, 10, 10];
     let mut book = small()?;
-    for n in 0..places.len() {
-        assert_eq!(rt; book.load(&SMALL[0..n]), Err(LoadError::Ended(places[n])));
+    for (n, place) in places.iter().enumerate() {
+        assert_eq!(rt; book.load(&SMALL[..n]), Err(LoadError::Ended(*place)));
     }
     saves_as(&rt, &book, &SMALL)
 }
@@ -133,9 +133,9 @@ fn round_trip(rt: &impl Abort, count: u8) -> Result<(), Fail> {
     assert!(rt; n <= LONGEST_FILE);
     assert_eq!(rt; n, 8 * count as usize + 2);
     let mut book = small()?;
-    book.load(&out[0..n])?;
+    book.load(&out[..n])?;
     assert_eq!(rt; book.rules().len(), count as usize);
-    saves_as(rt, &book, &out[0..n])
+    saves_as(rt, &book, &out[..n])
 }
 
 #[test]
@@ -156,6 +156,29 @@ fn buffers(rt: HostRuntime) -> Result<(), Fail> {
     let mut long = [9; 13];
     assert_eq!(rt; book.save(&mut long), Ok(12));
     assert_eq!(rt; long[12], 9);
-    assert_eq!(rt; book.save(&mut long[0..12]), Ok(12));
+    assert_eq!(rt; book.save(&mut long[..12]), Ok(12));
+    Ok(())
+}
+
+#[test]
+fn printed_refusals(rt: HostRuntime) -> Result<(), Fail> {
+    let heap = rt.alloc();
+    let bad_code = LoadError::Enter(3, EnterError::Code(1));
+    assert_eq!(rt;
+        EnterError::Full.to_string(heap)?.as_str(),
+        "1, the book is full"
+    );
+    assert_eq!(rt;
+        StrikeError::Missing.to_string(heap)?.as_str(),
+        "6, there is no rule of that number"
+    );
+    assert_eq!(rt;
+        bad_code.to_string(heap)?.as_str(),
+        "17 at 3, the rule is refused (4, right code at index 1 is no symbol)"
+    );
+    assert_eq!(rt;
+        SaveError::Short.to_string(heap)?.as_str(),
+        "20, the buffer is too short"
+    );
     Ok(())
 }

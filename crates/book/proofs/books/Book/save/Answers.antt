@@ -37,11 +37,6 @@ loop-rule-preserved c =
       put.back ∙ back_on _ _ c.loop-rule.at c.put_record-at.result (omega (arith, put.next)) c.loop-rule.invariant.3,
     )
 
-pub put-requires : goal.put-requires
-put-requires c =
-    let rs = c.rules-rules.result.now in
-    omega (arith, room (goal.at.put-requires c).After-rules-rules, records_within rs c.loop-rule.rule-index, c.loop-rule.invariant.0, c.loop-rule.invariant.1)
-
 pub returns : goal.returns
 returns c =
     let rs = c.rules-rules.result.now in
