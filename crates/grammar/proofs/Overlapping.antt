@@ -1,12 +1,12 @@
 -- Reads, lookaheads and their overlap, turn by turn.
-use Rattle.std.proofs.Common.{◌≡◌, ℕ, zero, suc, ◌+◌, ◌-◌, ◌<◌, ◌≤◌, Bool, true, false, ◌⊎◌, List, [], ◌∷◌, map, length, get_or, drop, refl, ap, ◌∙◌, inl, inr}
+use Rattle.std.proofs.Common.{◌≡◌, ℕ, zero, suc, ◌+◌, ◌-◌, ◌<◌, ◌≤◌, Bool, true, false, ◌&&◌, ◌||◌, ◌⊎◌, List, [], ◌∷◌, map, length, drop, refl, sym, ap, ◌∙◌, inl, inr, arith}
+use Rattle.std.specs.List.{list_any, zip}
 use Rattle.std.proofs.lemmas.List.{drop_all}
 use Rattle.book.specs.Rules.{Production}
 use Rattle.grammar.specs.Items.{Items, read_row, read_rows}
 use Rattle.grammar.specs.Lookahead.{Look, lookahead_of, meets, overlap}
-use Rattle.grammar.specs.Numbered.{outer}
-use Rattle.grammar.specs.Sets.{Flags, codes, has, insert, union, keep, up_from}
-use Rattle.grammar.proofs.Turns.{keep_more, up_done, at_drops_more}
+use Rattle.grammar.specs.Sets.{Flags, symbol_count, codes, has, union, any, keep, up_from}
+use Rattle.grammar.proofs.Turns.{keep_more, up_done}
 
 -- Reads.
 
@@ -14,16 +14,9 @@ read_row_end : (s : Flags) (ws : List ℕ) → read_row s ws [] ≡ s
 read_row_end s [] = refl
 read_row_end s (w ∷ ws) = refl
 
-pub read_row_done : (s : Flags) (ws : List ℕ) (row : Flags) (d : ℕ) → (length ws ≤ d) ⊎ (length row ≤ d) → read_row s (drop d ws) (drop d row) ≡ s
-read_row_done s ws row d (inl h) = ap (λ t. read_row s t (drop d row)) (drop_all d ws h)
-read_row_done s ws row d (inr h) = ap (read_row s (drop d ws)) (drop_all d row h) ∙ read_row_end s (drop d ws)
-
-pub read_row_more : (s : Flags) (ws : List ℕ) (row : Flags) (d : ℕ) (t : Bool) → d < length ws → d < length row → has row d ≡ t
-    → read_row s (drop d ws) (drop d row) ≡ read_row (elim t [ true ↦ insert s (get_or ws d 0) | false ↦ s ]) (drop (d + 1) ws) (drop (d + 1) row)
-read_row_more s ws row d t h k e =
-    let step : read_row s (drop d ws) (drop d row) ≡ read_row (elim (has row d) [ true ↦ insert s (get_or ws d 0) | false ↦ s ]) (drop (d + 1) ws) (drop (d + 1) row) =
-    at_drops_more (read_row s) ws row d 0 false h k in
-    step ∙ ap (λ b. read_row (elim b [ true ↦ insert s (get_or ws d 0) | false ↦ s ]) (drop (d + 1) ws) (drop (d + 1) row)) e
+pub read_row_done : (s : Flags) (ws : List ℕ) (row : Flags) → (ws ≡ []) ⊎ (row ≡ []) → read_row s ws row ≡ s
+read_row_done s ws row (inl e) = ap (λ t. read_row s t row) e
+read_row_done s ws row (inr e) = ap (read_row s ws) e ∙ read_row_end s ws
 
 read_rows_end : (s : Flags) (ls : List Production) → read_rows s ls [] ≡ s
 read_rows_end s [] = refl
@@ -33,9 +26,27 @@ pub read_rows_done : (s : Flags) (ls : List Production) (rows : Items) (k : ℕ)
 read_rows_done s ls rows k (inl h) = ap (λ t. read_rows s t (drop k rows)) (drop_all k ls h)
 read_rows_done s ls rows k (inr h) = ap (read_rows s (drop k ls)) (drop_all k rows h) ∙ read_rows_end s (drop k ls)
 
-pub read_rows_more : (s : Flags) (ls : List Production) (rows : Items) (k : ℕ) → k < length ls → k < length rows
-    → read_rows s (drop k ls) (drop k rows) ≡ read_rows (read_row s (get_or ls k outer).rhs (get_or rows k [])) (drop (k + 1) ls) (drop (k + 1) rows)
-read_rows_more s ls rows k h i = at_drops_more (read_rows s) ls rows k outer [] h i
+-- Whether two sets of n flags have one in common.
+
+any_behind : (p : ℕ → Bool) (k n : ℕ) → any p (up_from (suc k) n) ≡ any (λ x. p (suc x)) (up_from k n)
+any_behind p k zero = refl
+any_behind p k (suc n) = ap (λ b. elim (p (suc k)) [ true ↦ true | false ↦ b ]) (any_behind p (suc k) n)
+
+any_both : (s t : Flags) (n : ℕ) → length s ≡ n → length t ≡ n → list_any (λ (p : Bool × Bool). p.0 && p.1) (zip s t) ≡ any (λ x. has s x && has t x) (up_from 0 n)
+any_both [] t zero l m = refl
+any_both [] t (suc n) l m = absurd (omega arith)
+any_both (a ∷ s) [] zero l m = absurd (omega arith)
+any_both (a ∷ s) [] (suc n) l m = absurd (omega arith)
+any_both (a ∷ s) (b ∷ t) zero l m = absurd (omega arith)
+any_both (a ∷ s) (b ∷ t) (suc n) l m =
+    turn (a && b) _ _ (any_both s t n (omega arith) (omega arith) ∙ sym (any_behind (λ x. has (a ∷ s) x && has (b ∷ t) x) 0 n))
+  where
+    turn : (c x y : Bool) → x ≡ y → (c || x) ≡ elim c [ true ↦ true | false ↦ y ]
+    turn true x y e = refl
+    turn false x y e = e
+
+pub any_meets : (s t : Flags) → length s ≡ symbol_count → length t ≡ symbol_count → list_any (λ (p : Bool × Bool). p.0 && p.1) (zip s t) ≡ meets s t
+any_meets s t l m = any_both s t symbol_count l m
 
 -- Lookaheads of the book's own rules are what the policy says.
 

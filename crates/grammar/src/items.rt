@@ -41,10 +41,9 @@ pub fn right_of(rules: &[Rule], number: usize) -> &[u8]
 fn read_row(set: &mut SymbolSet, right: &[u8], row: &DotRow)
     ensures { set.new ≡ read_row set.old right.now row.now }
 {
-    let n = right.len().min(DOTS);
-    for d in 0..n {
-        if row[d] {
-            insert(set, right[d]);
+    for (symbol, has_dot) in right.iter().zip(row) {
+        if *has_dot {
+            insert(set, *symbol);
         }
     }
 }
@@ -54,11 +53,11 @@ pub fn reads(rules: &[Rule], items: &[DotRow]) -> SymbolSet
     ensures { result ≡ reads (numbered (productions_of rules.now)) items.now }
 {
     let mut set = [false; SYMBOLS];
-    for k in 0..items.len() {
-        if k > rules.len() {
-            return set;
+    for (number, row) in items.iter().enumerate() {
+        if number > rules.len() {
+            break;
         }
-        read_row(&mut set, right_of(rules, k), &items[k]);
+        read_row(&mut set, right_of(rules, number), row);
     }
     set
 }

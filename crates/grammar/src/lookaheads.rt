@@ -9,7 +9,7 @@ ghost use Rattle.grammar.specs.Policies.{slr_lawful, leftmost_follow_lawful, slr
 
 use crate::items::{DotRow, is_complete, left_of, reads};
 use crate::relations::{RelationSets, set_of, unite};
-use crate::sets::{SYMBOLS, SymbolSet};
+use crate::sets::{SymbolSet, only};
 use book::rules::Rule;
 
 pub trait Lookahead {
@@ -27,6 +27,22 @@ pub trait Lookahead {
         ensures { result ≡ map (policy self.now (related_by sets.now (productions_of rules.now)) closed.now number) codes };
 
     ghost lawful: { (x : Self) → Lawful (policy x) };
+}
+
+// The lookahead of a complete rule. That of the outer rule is the end mark alone, and no policy decides it.
+pub fn lookahead_of<L: Lookahead>(
+    look: &L,
+    sets: &RelationSets,
+    rules: &[Rule],
+    closed: &[DotRow],
+    number: usize,
+) -> SymbolSet
+    ensures { result ≡ lookahead_of (L.Lookahead.policy look.now (related_by sets.now (productions_of rules.now)) closed.now) number }
+{
+    if number == 0 {
+        return only(0);
+    }
+    look.lookahead(sets, rules, closed, number)
 }
 
 // SLR: the followers of the rule's left side.
@@ -73,24 +89,7 @@ impl Lookahead for LeftmostFollow {
 fn meet(one: &SymbolSet, other: &SymbolSet) -> bool
     ensures { result ≡ meets one.now other.now }
 {
-    for x in 0..SYMBOLS {
-        if one[x] & other[x] {
-            return true;
-        }
-    }
-    false
-}
-
-// The SLR lookahead of a complete rule; that of the outer rule is the end mark alone.
-fn slr_lookahead(sets: &RelationSets, rules: &[Rule], closed: &[DotRow], number: usize) -> SymbolSet
-    ensures { result ≡ lookahead_of (slr (related_by sets.now (productions_of rules.now)) closed.now) number }
-{
-    if number == 0 {
-        let mut end = [false; SYMBOLS];
-        end[0] = true;
-        return end;
-    }
-    Slr.lookahead(sets, rules, closed, number)
+    one.iter().zip(other).any(|(a, b)| *a && *b)
 }
 
 // Whether SLR lookaheads give a closed set a conflict among its own reads and lookaheads.
@@ -100,7 +99,7 @@ fn is_conflicting(sets: &RelationSets, rules: &[Rule], closed: &[DotRow]) -> boo
     let mut seen = reads(rules, closed);
     for number in 0..=rules.len() {
         if is_complete(rules, closed, number) {
-            let lookahead = slr_lookahead(sets, rules, closed, number);
+            let lookahead = lookahead_of(&Slr, sets, rules, closed, number);
             if meet(&seen, &lookahead) {
                 return true;
             }
@@ -136,3 +135,7 @@ impl<L: Lookahead> Lookahead for SlrIfAdequate<L> {
 }
 
 pub type Lslr = SlrIfAdequate<LeftmostFollow>;
+
+pub const LSLR: Lslr = SlrIfAdequate {
+    below: LeftmostFollow,
+};

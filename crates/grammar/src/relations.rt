@@ -9,7 +9,7 @@ ghost use Rattle.grammar.specs.Relations.{corner_step, corners_of, corners, behi
 ghost use Rattle.grammar.specs.Sets.{has, codes, union};
 
 use crate::growing::{Growth, saturate};
-use crate::sets::{SYMBOLS, SymbolSet, contains, insert};
+use crate::sets::{SYMBOLS, SymbolSet, contains, insert, only};
 use book::rules::Rule;
 use book::symbols::FIRST_NONTERMINAL;
 
@@ -68,8 +68,7 @@ pub fn related(table: &SymbolTable, x: u8, y: u8) -> bool
 fn corners_of(rules: &[Rule], end: End, symbol: u8) -> SymbolSet
     ensures { result ≡ corners_of (end_of end) (productions_of rules.now) symbol }
 {
-    let mut set = [false; SYMBOLS];
-    insert(&mut set, symbol);
+    let mut set = only(symbol);
     saturate(&end, rules, &mut set);
     set
 }
@@ -80,8 +79,8 @@ pub fn corners(rules: &[Rule], end: End) -> SymbolTable
     ensures tell { Tells result (λ x z. Corner (end_of end) (productions_of rules.now) z x) }
 {
     let mut all = [[false; SYMBOLS]; SYMBOLS];
-    for x in 0..SYMBOLS {
-        all[x] = corners_of(rules, end, x as u8);
+    for (x, set) in all.iter_mut().enumerate() {
+        *set = corners_of(rules, end, x as u8);
     }
     all
 }
@@ -90,9 +89,9 @@ pub fn corners(rules: &[Rule], end: End) -> SymbolTable
 fn insert_behind(set: &mut SymbolSet, rights: &SymbolTable, a: u8, right: &[u8])
     ensures { set.new ≡ behind (λ x. has (slice_index_or rights.now x []) a) set.old (slice_index right.now 0) (drop 1 right.now) }
 {
-    for i in 1..right.len() {
-        if related(rights, right[i - 1], a) {
-            insert(set, right[i]);
+    for pair in right.windows(2) {
+        if related(rights, pair[0], a) {
+            insert(set, pair[1]);
         }
     }
 }
@@ -115,8 +114,8 @@ fn leftmosts(rights: &SymbolTable, rules: &[Rule]) -> SymbolTable
     ensures { result ≡ map (leftmost_of rights.now (productions_of rules.now)) codes }
 {
     let mut all = [[false; SYMBOLS]; SYMBOLS];
-    for a in 0..SYMBOLS {
-        all[a] = leftmost_of(rights, rules, a as u8);
+    for (a, set) in all.iter_mut().enumerate() {
+        *set = leftmost_of(rights, rules, a as u8);
     }
     all
 }
@@ -125,8 +124,8 @@ fn leftmosts(rights: &SymbolTable, rules: &[Rule]) -> SymbolTable
 pub(crate) fn unite(set: &mut SymbolSet, other: &SymbolSet)
     ensures { set.new ≡ union set.old other.now }
 {
-    for x in 0..SYMBOLS {
-        set[x] = set[x] | other[x];
+    for (x, is_in) in set.iter_mut().enumerate() {
+        *is_in |= other[x];
     }
 }
 
@@ -134,9 +133,9 @@ fn followers_of(lefts: &SymbolTable, leftmost: &SymbolSet) -> SymbolSet
     ensures { result ≡ followers_of lefts.now leftmost.now }
 {
     let mut set = [false; SYMBOLS];
-    for y in 0..SYMBOLS {
-        if leftmost[y] {
-            unite(&mut set, &lefts[y]);
+    for (corners, is_leftmost) in lefts.iter().zip(leftmost) {
+        if *is_leftmost {
+            unite(&mut set, corners);
         }
     }
     set
@@ -147,8 +146,8 @@ fn followers(lefts: &SymbolTable, leftmosts: &SymbolTable) -> SymbolTable
     ensures { result ≡ map (followers_of lefts.now) leftmosts.now }
 {
     let mut all = [[false; SYMBOLS]; SYMBOLS];
-    for a in 0..SYMBOLS {
-        all[a] = followers_of(lefts, &leftmosts[a]);
+    for (a, set) in all.iter_mut().enumerate() {
+        *set = followers_of(lefts, &leftmosts[a]);
     }
     all
 }

@@ -1,6 +1,6 @@
 // Sets of symbols, as a flag for each code. A code past the last is in no set.
 ghost use Rattle.std.specs.Prelude.{◌≡◌, false};
-ghost use Rattle.grammar.specs.Sets.{has, insert};
+ghost use Rattle.grammar.specs.Sets.{has, insert, only};
 
 // How many symbols there are: the codes 0 to 80.
 pub const SYMBOLS: usize = 81;
@@ -18,6 +18,15 @@ pub fn contains(set: &SymbolSet, symbol: u8) -> bool
     ensures { result ≡ has set.now symbol }
 {
     flag_at(set, usize::from(symbol))
+}
+
+// The set of one symbol; of none, for a code past the last.
+pub(crate) fn only(symbol: u8) -> SymbolSet
+    ensures { result ≡ only symbol }
+{
+    let mut set = [false; SYMBOLS];
+    insert(&mut set, symbol);
+    set
 }
 
 // Puts a symbol in, and answers whether that changed the set.

@@ -6,7 +6,7 @@ ghost use Rattle.grammar.specs.Sets.{has, codes, every};
 ghost use Rattle.grammar.specs.Useful.{insert_all, reach_step, yield_step, reached_in, yielding_in, occurring_in, terminals, lowest, is_useless, useless_in};
 
 use crate::growing::{Growth, saturate};
-use crate::sets::{SYMBOLS, SymbolSet, contains, insert};
+use crate::sets::{SYMBOLS, SymbolSet, contains, insert, only};
 use book::rules::Rule;
 use book::symbols::{FIRST_NONTERMINAL, is_terminal};
 use std::array;
@@ -67,8 +67,7 @@ fn terminals() -> SymbolSet
 fn reached(rules: &[Rule]) -> SymbolSet
     ensures { result ≡ reached_in (productions_of rules.now) }
 {
-    let mut set = [false; SYMBOLS];
-    insert(&mut set, FIRST_NONTERMINAL);
+    let mut set = only(FIRST_NONTERMINAL);
     saturate(&Reach, rules, &mut set);
     set
 }
@@ -85,8 +84,7 @@ fn yielding(rules: &[Rule]) -> SymbolSet
 fn occurring(rules: &[Rule]) -> SymbolSet
     ensures { result ≡ occurring_in (productions_of rules.now) }
 {
-    let mut set = [false; SYMBOLS];
-    insert(&mut set, FIRST_NONTERMINAL);
+    let mut set = only(FIRST_NONTERMINAL);
     for rule in rules {
         insert(&mut set, rule.left());
         insert_all(&mut set, rule.right());

@@ -57,7 +57,7 @@ pub returns-then-meet : goal.returns-then-meet
 returns-then-meet c =
     let many = length-map c.args.rules.now production_of in
     sym (met_here (related_by c.args.sets.now (productions_of c.args.rules.now)) (productions_of c.args.rules.now) c.args.closed.now c.loop-number.number c.loop-number.seen
-    (omega (arith, many, c.loop-number-test.true)) _ c.is_complete.ensures c.if-is_complete.true _ c.slr_lookahead-lookahead.ensures _ c.meet.ensures c.if-meet.true)
+    (omega (arith, many, c.loop-number-test.true)) _ c.is_complete.ensures c.if-is_complete.true _ c.lookahead_of-lookahead.ensures _ c.meet.ensures c.if-meet.true)
     ∙ c.loop-number.invariant
 
 pub loop-number-preserved : goal.loop-number-preserved
@@ -69,7 +69,7 @@ loop-number-preserved c =
     elim c.if-is_complete.branch [
       | then-is_complete+else-meet w ↦
           unmet_here rel ls c.args.closed.now c.loop-number.number c.loop-number.seen inside _ c.is_complete.ensures w.if-is_complete.true
-          _ w.slr_lookahead-lookahead.ensures _ w.meet.ensures w.if-meet.false _ (w.seen-is ∙ w.unite.ensures)
+          _ w.lookahead_of-lookahead.ensures _ w.meet.ensures w.if-meet.false _ (w.seen-is ∙ w.unite.ensures)
           ∙ c.loop-number.invariant
       | else-is_complete w ↦
           past_here rel ls c.args.closed.now c.loop-number.number c.loop-number.seen inside _ c.is_complete.ensures w.if-is_complete.false _ w.seen-is
@@ -87,7 +87,7 @@ returns-after-is_complete c =
       | then-is_complete+else-meet w ↦
           sym (none_left rel ls c.args.closed.now (c.loop-number.number + 1) c.if-is_complete.seen over)
           ∙ unmet_here rel ls c.args.closed.now c.loop-number.number c.loop-number.seen inside _ c.is_complete.ensures w.if-is_complete.true
-          _ w.slr_lookahead-lookahead.ensures _ w.meet.ensures w.if-meet.false _ (w.seen-is ∙ w.unite.ensures)
+          _ w.lookahead_of-lookahead.ensures _ w.meet.ensures w.if-meet.false _ (w.seen-is ∙ w.unite.ensures)
           ∙ c.loop-number.invariant
       | else-is_complete w ↦
           sym (none_left rel ls c.args.closed.now (c.loop-number.number + 1) c.if-is_complete.seen over)

@@ -6,4 +6,4 @@ use Rattle.grammar.specs.Sets.{symbol_count, up_from}
 use Rattle.grammar.proofs.relations.corners.Given as goal
 
 abbrev pub invariant-loop-x : goal.invariant-loop-x
-invariant-loop-x l = (length l.all ≡ symbol_count) × (take l.x l.all ≡ map (corners_of (end_of l.end) (productions_of l.rules)) (up_from 0 l.x))
+invariant-loop-x l = (length l.set-items ≡ symbol_count) × (take l.x l.set-items ≡ map (corners_of (end_of l.end) (productions_of l.rules)) (up_from 0 l.x))

@@ -6,7 +6,7 @@ use Rattle.grammar.proofs.relations.followers.Goals as goal
 pub loop-a-preserved : goal.loop-a-preserved
 loop-a-preserved c =
     let f = followers_of c.args.lefts.now in
-    let all = c.loop-a.all in
+    let all = c.loop-a.set-items in
     let a = c.loop-a.a in (
       length-set all a _ ∙ c.loop-a.invariant.0,
       take_more_set all a c.followers_of.result (omega (arith, c.loop-a.invariant.0))
@@ -17,5 +17,5 @@ loop-a-preserved c =
 pub returns : goal.returns
 returns c =
     let f = followers_of c.args.lefts.now in
-    sym (take_all c.loop-a.a c.loop-a.all (omega (arith, c.loop-a.invariant.0))) ∙ c.loop-a.invariant.1
+    sym (take_all c.loop-a.a c.loop-a.set-items (omega (arith, c.loop-a.invariant.0))) ∙ c.loop-a.invariant.1
     ∙ ap (map f) (take_all c.loop-a.a c.args.leftmosts.now (omega (arith, c.told-leftmosts)))

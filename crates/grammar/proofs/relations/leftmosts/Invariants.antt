@@ -5,4 +5,4 @@ use Rattle.grammar.specs.Sets.{symbol_count, up_from}
 use Rattle.grammar.proofs.relations.leftmosts.Given as goal
 
 abbrev pub invariant-loop-a : goal.invariant-loop-a
-invariant-loop-a l = (length l.all ≡ symbol_count) × (take l.a l.all ≡ map (leftmost_of l.rights (productions_of l.rules)) (up_from 0 l.a))
+invariant-loop-a l = (length l.set-items ≡ symbol_count) × (take l.a l.set-items ≡ map (leftmost_of l.rights (productions_of l.rules)) (up_from 0 l.a))

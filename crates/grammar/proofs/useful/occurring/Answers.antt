@@ -16,7 +16,7 @@ loop-rule-preserved c =
     let s = c.loop-rule.set in
     let rest = productions_of (drop (i + 1) rules) in
     let put : c.insert_all.new.set ≡ step s (production_of c.rule-item.result) =
-    c.insert_all.ensures.after ∙ ap₂ insert_all (c.insert-in-loop-rule.ensures.after ∙ ap (insert s) c.left.ensures) c.right.ensures.value in
+    c.insert_all.ensures.after ∙ ap₂ insert_all (c.insert.ensures.after ∙ ap (insert s) c.left.ensures) c.right.ensures.value in
     ap (through step rest) put
     ∙ ap (λ r. through step rest (step s (production_of r))) c.rule-item.is
     ∙ sym (at_drop_more (λ rs. through step (productions_of rs) s) rules i c.rule-item.result c.loop-rule-test.true)
