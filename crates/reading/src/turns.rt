@@ -21,11 +21,11 @@ pub const MOST_WORDS: usize = 1000;
 // A read under way: what it goes by, what it was lent, and how far it has come.
 #[derive(Drop)]
 pub(crate) struct Read<'a, S> {
-    pub(crate) tables: &'a Tables,
-    pub(crate) rules: &'a [Rule],
-    pub(crate) stacks: &'a mut Stacks,
-    pub(crate) source: &'a mut S,
-    pub(crate) steps: &'a mut [Step],
+    tables: &'a Tables,
+    rules: &'a [Rule],
+    stacks: &'a mut Stacks,
+    source: &'a mut S,
+    steps: &'a mut [Step],
     pub(crate) progress: Progress,
     ghost within: { progress.steps ≤ length steps.now },
 }
