@@ -1,14 +1,14 @@
 -- What each step of the run leaves to be told.
-use Rattle.std.proofs.Common.{◌≡◌, ℕ, ◌≤◌, Bool, true, false, ltb, List, [], length, Some, Result, sym, refl, ap, ◌∙◌, arith}
-use Rattle.std.proofs.lemmas.Bool.{ltb-false}
-use Rattle.book.specs.Answers.{Answer, granted, refused, Refusal, no, refuse_if, and_then, leaves}
+use Rattle.std.proofs.Common.{◌≡◌, ℕ, ◌≤◌, List, length, Some, Result, sym, ap, ◌∙◌, arith}
+use Rattle.book.specs.Answers.{Answer, granted, refused, Refusal, and_then, leaves}
 use Rattle.source.specs.Streams.{Stream}
 use Rattle.reading.specs.declared.outcomes.Step.{Step}
 use Rattle.reading.specs.declared.outcomes.Outcome.{Outcome}
 use Rattle.card.specs.declared.refusals.ReadError.{ReadError}
 use Rattle.card.specs.Models.{Model}
 use Rattle.card.specs.Wanting.{told_by, steps_by, read_on}
-use Rattle.report.specs.Buffers.{report_says, report_in}
+use Rattle.report.specs.Buffers.{report_says, report_in, Reports}
+use Rattle.report.specs.declared.reports.ReportError.{ReportError}
 use Rattle.report.specs.Texts.{read_text}
 use Rattle.report.proofs.Answering.{read_answers}
 use Rattle.translate.specs.Translations.{after, told_of}
@@ -38,18 +38,11 @@ pub ends : {A : Type 0} (says : Answer A) (tells : Refusal → List ℕ) (goes_o
 ends (granted x) tells goes_on n e = let z : ◌≡◌ {A = ℕ} 0 1 = cc in absurd (omega arith)
 ends (refused m) tells goes_on n e = let same : n ≡ m = cc in ap tells same
 
--- Reports of equal texts.
-
-pub says_as : (text other : List ℕ) (room : ℕ) (a : Answer ℕ) → text ≡ other → a ≡ report_says text room → a ≡ report_says other room
-says_as text other room a same e = e ∙ ap (λ t. report_says t room) same
-
-pub leaves_as : (text other before now : List ℕ) → text ≡ other → now ≡ report_in text before → now ≡ report_in other before
-leaves_as text other before now same e = e ∙ ap (λ t. report_in t before) same
-
--- a report fits the buffer
-pub within_room : (text : List ℕ) (room n : ℕ) → granted n ≡ report_says text room → n ≤ room
-within_room text room n says = go (ltb room (length text)) refl says
-  where
-    go : (b : Bool) → ltb room (length text) ≡ b → granted n ≡ refuse_if b (no 20 []) (granted (length text)) → n ≤ room
-    go true e g = let z : ◌≡◌ {A = ℕ} 0 1 = cc in absurd (omega arith)
-    go false e g = let same : n ≡ length text = cc in omega (arith, ltb-false room (length text) e)
+-- a report of an equal text, in a buffer that is large enough for it too
+pub reports_as : (text other : List ℕ) (enough more : ℕ) (old new : List ℕ) (r : Result ℕ ReportError) → text ≡ other → enough ≤ more
+    → Reports text enough old new r → Reports other more old new r
+reports_as text other enough more old new r same le w = record {
+  answer = w.answer ∙ ap (λ t. report_says t (length old)) same;
+  buffer = w.buffer ∙ ap (λ t. report_in t old) same;
+  room = λ h. w.room (omega arith);
+}

@@ -15,10 +15,8 @@ const MOST_TEXT: usize = 184_114;
 // Prints the text of a run, which always finds room.
 fn print(rt: &HostRuntime, book: &[u8], tape: &[u8]) -> io::Result<()> {
     let mut out = [0; MOST_TEXT];
-    match translate(book, tape, &mut out) {
-        Ok(size) => rt.stdout().write_all(&out[0..size]),
-        Err(_) => unreachable(),
-    }
+    let size = translate(book, tape, &mut out).unwrap();
+    rt.stdout().write_all(&out[..size])
 }
 
 fn main(rt: HostRuntime) -> io::Result<()> {

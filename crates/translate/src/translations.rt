@@ -1,19 +1,19 @@
 // The text that the program prints, from the bytes of a book file and of a tape.
-ghost use Rattle.std.specs.Prelude.{◌≡◌, ◌≤◌, true, length, is_ok};
+ghost use Rattle.std.specs.Prelude.{◌≡◌, length};
 ghost use Rattle.book.specs.Answers.{granted, said, and_then};
 ghost use Rattle.grammar.specs.Build.{build_says};
 ghost use Rattle.grammar.specs.Lookahead.{lslr};
 ghost use Rattle.tables.specs.Built.{build_refusal};
 ghost use Rattle.card.specs.Cards.{model_of};
 ghost use Rattle.card.specs.Models.{after_build};
-ghost use Rattle.report.specs.Buffers.{report_refusal, report_says, report_in, read_room};
+ghost use Rattle.report.specs.Buffers.{Reports, read_room};
 ghost use Rattle.translate.specs.Tellings.{told_read, told_source, told_tape, told_build};
 ghost use Rattle.translate.specs.Translations.{most_text, translation};
 
 use card::card::Card;
 use grammar::lookaheads::{LeftmostFollow, SlrIfAdequate};
 use reading::outcomes::Step;
-use report::reports::{ReportError, report_build, report_load, report_read, report_tape};
+use report::reports::{ReportError, report_error, report_read, report_tape};
 use source::skips::Skip;
 use source::sources::Source;
 use source::tapes::Tape;
@@ -32,9 +32,7 @@ fn read_into<S: Source>(
     list: &mut [Step],
     out: &mut [u8],
 ) -> Result<usize, ReportError>
-    ensures answer { said report_refusal result ≡ report_says (told_read (model_of card.old) (length list.old) (S.Source.means source.old)) (length out.old) }
-    ensures buffer { out.new ≡ report_in (told_read (model_of card.old) (length list.old) (S.Source.means source.old)) out.old }
-    ensures room { read_room (length list.old) ≤ length out.old → is_ok result ≡ true }
+    ensures { Reports (told_read (model_of card.old) (length list.old) (S.Source.means source.old)) (read_room (length list.old)) out.old out.new result }
 {
     let outcome = card.read(source, list);
     report_read(&outcome, list, out)
@@ -46,9 +44,7 @@ fn read_source<S: Source + Drop>(
     source: S,
     out: &mut [u8],
 ) -> Result<usize, ReportError>
-    ensures answer { said report_refusal result ≡ report_says (told_source (model_of card.old) (S.Source.means source)) (length out.old) }
-    ensures buffer { out.new ≡ report_in (told_source (model_of card.old) (S.Source.means source)) out.old }
-    ensures room { most_text ≤ length out.old → is_ok result ≡ true }
+    ensures { Reports (told_source (model_of card.old) (S.Source.means source)) most_text out.old out.new result }
 {
     let empty = Step {
         rule: 0,
@@ -56,17 +52,13 @@ fn read_source<S: Source + Drop>(
         width: 0,
     };
     let mut list = [empty; PLACES];
-    match Skip::new(source, SKIPPED) {
-        Ok(mut words) => read_into(card, &mut words, &mut list, out),
-        Err(_) => unreachable(),
-    }
+    let mut words = Skip::new(source, SKIPPED).unwrap();
+    read_into(card, &mut words, &mut list, out)
 }
 
 // Reads a tape, and tells of it.
 fn read_tape(card: &mut Card, tape: &[u8], out: &mut [u8]) -> Result<usize, ReportError>
-    ensures answer { said report_refusal result ≡ report_says (told_tape (model_of card.old) tape.now) (length out.old) }
-    ensures buffer { out.new ≡ report_in (told_tape (model_of card.old) tape.now) out.old }
-    ensures room { most_text ≤ length out.old → is_ok result ≡ true }
+    ensures { Reports (told_tape (model_of card.old) tape.now) most_text out.old out.new result }
 {
     match Tape::new(tape) {
         Ok(source) => read_source(card, source, out),
@@ -87,25 +79,21 @@ fn build_lslr(card: &mut Card) -> Result<(), BuildError>
 
 // Builds the card and reads a tape, and tells of what ended the run.
 fn build_and_read(card: &mut Card, tape: &[u8], out: &mut [u8]) -> Result<usize, ReportError>
-    ensures answer { said report_refusal result ≡ report_says (told_build (model_of card.old).held_rules tape.now) (length out.old) }
-    ensures buffer { out.new ≡ report_in (told_build (model_of card.old).held_rules tape.now) out.old }
-    ensures room { most_text ≤ length out.old → is_ok result ≡ true }
+    ensures { Reports (told_build (model_of card.old).held_rules tape.now) most_text out.old out.new result }
 {
     match build_lslr(card) {
         Ok(()) => read_tape(card, tape, out),
-        Err(error) => report_build(&error, out),
+        Err(error) => report_error(&error, out),
     }
 }
 
 // Writes the text at the start of a buffer, and answers how many bytes it has.
 pub fn translate(book: &[u8], tape: &[u8], out: &mut [u8]) -> Result<usize, ReportError>
-    ensures answer { said report_refusal result ≡ report_says (translation book.now tape.now) (length out.old) }
-    ensures buffer { out.new ≡ report_in (translation book.now tape.now) out.old }
-    ensures room { most_text ≤ length out.old → is_ok result ≡ true }
+    ensures { Reports (translation book.now tape.now) most_text out.old out.new result }
 {
     let mut card = Card::new();
     match card.load(book) {
         Ok(()) => build_and_read(&mut card, tape, out),
-        Err(error) => report_load(&error, out),
+        Err(error) => report_error(&error, out),
     }
 }

@@ -6,7 +6,7 @@ use Rattle.card.specs.Cards.{model_of}
 use Rattle.card.specs.Models.{unbuilt, built_with}
 use Rattle.report.specs.Texts.{refused_text}
 use Rattle.translate.specs.Tellings.{told_tape}
-use Rattle.translate.proofs.Telling.{goes, ends, says_as, leaves_as}
+use Rattle.translate.proofs.Telling.{goes, ends, reports_as}
 use Rattle.translate.proofs.translations.build_and_read.Goals as goal
 
 pub returns-in-Ok : goal.returns-in-Ok
@@ -15,11 +15,7 @@ returns-in-Ok c =
     let told =
     goes (build_says lslr rules) (refused_text (codes "build")) (built_with rules) (λ m. told_tape m c.args.tape.now) (unbuilt rules)
     (model_of c.build_lslr.new.card) c.in-Ok.ensures.answer c.in-Ok.ensures.model in
-    record {
-      answer = says_as _ _ _ _ told c.read_tape.ensures.answer;
-      buffer = leaves_as _ _ _ _ told c.read_tape.ensures.buffer;
-      room = λ h. c.read_tape.ensures.room (omega arith);
-    }
+    reports_as _ _ _ _ _ _ _ told (omega arith) c.read_tape.ensures
 
 pub returns-in-Err : goal.returns-in-Err
 returns-in-Err c =
@@ -27,8 +23,4 @@ returns-in-Err c =
     let told =
     ends (build_says lslr rules) (refused_text (codes "build")) (λ rows. told_tape (built_with rules rows) c.args.tape.now)
     (build_refusal c.in-Err.error) c.in-Err.ensures.answer in
-    record {
-      answer = says_as _ _ _ _ told c.report_build.ensures.answer;
-      buffer = leaves_as _ _ _ _ told c.report_build.ensures.buffer;
-      room = λ h. c.report_build.ensures.room (omega arith);
-    }
+    reports_as _ _ _ _ _ _ _ told (omega arith) c.report_error.ensures

@@ -4,7 +4,7 @@ use Rattle.card.specs.Cards.{model_of}
 use Rattle.card.specs.Models.{unbuilt}
 use Rattle.report.specs.Texts.{refused_text}
 use Rattle.translate.specs.Tellings.{told_build}
-use Rattle.translate.proofs.Telling.{goes, says_as, leaves_as}
+use Rattle.translate.proofs.Telling.{goes, reports_as}
 use Rattle.translate.proofs.translations.translate.Goals as goal
 
 pub returns-in-Ok : goal.returns-in-Ok
@@ -12,8 +12,4 @@ returns-in-Ok c =
     let told =
     goes (load_says c.args.book.now) (refused_text (codes "load")) unbuilt (λ m. told_build m.held_rules c.args.tape.now) (model_of c.new-card.result)
     (model_of c.load.new.self) c.in-Ok.ensures.answer c.in-Ok.ensures.model in
-    record {
-      answer = says_as _ _ _ _ told c.build_and_read.ensures.answer;
-      buffer = leaves_as _ _ _ _ told c.build_and_read.ensures.buffer;
-      room = λ h. c.build_and_read.ensures.room (omega arith);
-    }
+    reports_as _ _ _ _ _ _ _ told (omega arith) c.build_and_read.ensures
