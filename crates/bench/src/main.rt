@@ -2,7 +2,7 @@
 #![tactic(auto)]
 
 use book::books::Book;
-use grammar::lookaheads::{LeftmostFollow, Lookahead, SlrIfAdequate};
+use grammar::lookaheads::LSLR;
 use std::time::Instant;
 use std::{env, io};
 use tables::actions::Row;
@@ -10,36 +10,25 @@ use tables::building::Tables;
 
 // How many actions there are in a row.
 fn actions_in(row: &Row) -> usize {
-    let mut count = 0usize;
-    for x in 0..81u8 {
-        if row.at(x).is_some() {
-            count = count.saturating_add(1);
-        }
-    }
-    count
+    (0..81u8).filter(|x| row.at(*x).is_some()).count()
 }
 
 // What a build of the book gives.
 fn show(rt: &HostRuntime, name: &str, book: &Book) -> io::Result<()> {
     let mut tables = Tables::new();
     if tables
-        .fill(
-            book.rules(),
-            &SlrIfAdequate {
-                below: LeftmostFollow,
-            },
-        )
+        .fill(book.rules(), &LSLR)
         .is_err()
     {
-        return rt.println(format!(in rt.alloc(); "{name}: refused")?);
+        return println!(rt; "{name}: refused");
     }
-    let mut actions = 0usize;
-    for row in tables.rows() {
-        actions = actions.saturating_add(actions_in(row));
-    }
+    let actions = tables
+        .rows()
+        .iter()
+        .fold(0usize, |sum, row| sum.saturating_add(actions_in(row)));
     let rules = book.rules().len();
     let states = tables.rows().len();
-    rt.println(format!(in rt.alloc(); "{name}: {rules} rules, {states} states, {actions} actions")?)
+    println!(rt; "{name}: {rules} rules, {states} states, {actions} actions")
 }
 
 // How long so many builds take.
@@ -47,22 +36,17 @@ fn time(rt: &HostRuntime, name: &str, book: &Book, times: usize) -> io::Result<(
     let mut tables = Tables::new();
     let start = Instant::now(rt)?;
     for _ in 0..times {
-        let _ = tables.fill(
-            book.rules(),
-            &SlrIfAdequate {
-                below: LeftmostFollow,
-            },
-        );
+        let _ = tables.fill(book.rules(), &LSLR);
     }
     let spent = start.elapsed(rt)?.as_micros();
-    rt.println(format!(in rt.alloc(); "{name}: {spent} us for {times} builds")?)
+    println!(rt; "{name}: {spent} us for {times} builds")
 }
 
 // Six times the same word, for 33 words: 200 states.
 fn wide() -> Book {
     let mut book = Book::new();
     for k in 1..34u8 {
-        let _ = book.enter(41, &[k, k, k, k, k, k]);
+        let _ = book.enter(41, &[k; 6]);
     }
     book
 }

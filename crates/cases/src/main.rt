@@ -4,65 +4,59 @@
 mod books;
 
 use book::books::Book;
+use books::BOOKS;
 use grammar::lookaheads::{LeftmostFollow, Lookahead, Slr, SlrIfAdequate};
-use std::alloc::{AllocError, Global};
-use std::io;
+use std::{fmt, io};
 use tables::building::{BuildError, Tables};
 
-// How many states a book has under a policy, or the refusal with its values.
-fn outcome<L: Lookahead>(heap: Global, book: &Book, look: &L) -> Result<String, AllocError> {
-    let mut tables = Tables::new();
-    match tables.fill(book.rules(), look) {
-        Ok(()) => {
-            let states = tables.rows().len();
-            format!(in heap; "{states} states")
+// How many states a book has under a policy, or why it has no tables.
+#[derive(Clone, Copy)]
+struct Built(Result<usize, BuildError>);
+
+impl fmt::Display for Built {
+    fn fmt<W: fmt::Write>(&self, f: &mut fmt::Formatter<W>) -> fmt::Result {
+        match self.0 {
+            Ok(states) => write!(f, "{states} states"),
+            Err(BuildError::Rules) => write!(f, "refused 1"),
+            Err(BuildError::Useless(code)) => write!(f, "refused 7, code {code}"),
+            Err(BuildError::States) => write!(f, "refused 8"),
+            Err(BuildError::Conflict(state, symbol)) => write!(
+                f,
+                "refused 9, state {state}, symbol {symbol}"
+            ),
         }
-        Err(BuildError::Rules) => format!(in heap; "refused 1"),
-        Err(BuildError::Useless(code)) => format!(in heap; "refused 7, code {code}"),
-        Err(BuildError::States) => format!(in heap; "refused 8"),
-        Err(BuildError::Conflict(state, symbol)) => format!(in heap;
-            "refused 9, state {state}, symbol {symbol}"
-        ),
     }
+}
+
+fn build<L: Lookahead>(book: &Book, look: &L) -> Built {
+    let mut tables = Tables::new();
+    Built(
+        tables
+            .fill(book.rules(), look)
+            .map(|()| tables.rows().len()),
+    )
 }
 
 // A book's answers, a line for each policy.
 fn show(rt: &HostRuntime, name: &str, file: &[u8]) -> io::Result<()> {
-    let heap = rt.alloc();
     let mut book = Book::new();
     if book.load(file).is_err() {
-        return rt.println(format!(in heap; "{name}: no book file")?);
+        return println!(rt; "{name}: no book file");
     }
-    let slr = outcome(heap, &book, &Slr)?;
-    let leftmost = outcome(heap, &book, &LeftmostFollow)?;
-    let eased = outcome(
-        heap,
+    let slr = build(&book, &Slr);
+    let leftmost = build(&book, &LeftmostFollow);
+    let eased = build(
         &book,
         &SlrIfAdequate {
             below: LeftmostFollow,
         },
-    )?;
-    rt.println(format!(in heap; "{name}: SLR {slr}; leftmost {leftmost}; LSLR {eased}")?)
+    );
+    println!(rt; "{name}: SLR {slr}; leftmost {leftmost}; LSLR {eased}")
 }
 
 fn main(rt: HostRuntime) -> io::Result<()> {
-    show(&rt, "empty book", &[7, 0])?;
-    show(&rt, "two left-recursive lists", books::left_lists())?;
-    show(&rt, "two right-recursive lists", books::right_lists())?;
-    show(&rt, "doubled", &[2, 41, 41, 41, 1, 41, 1, 7, 2])?;
-    show(&rt, "itself", &[1, 41, 41, 1, 41, 1, 7, 2])?;
-    show(&rt, "apart", &[1, 41, 1, 1, 42, 2, 7, 2])?;
-    show(&rt, "waiting over a list", books::waiting())?;
-    show(&rt, "settled too late", books::too_late())?;
-    show(&rt, "nested and counted", books::nested())?;
-    show(&rt, "pairs, even or odd", books::pairs())?;
-    show(&rt, "one for one, or two for one", books::counted())?;
-    show(
-        &rt,
-        "one for one, or two for one, and more behind",
-        books::counted_more(),
-    )?;
-    show(&rt, "a conflict under each policy", books::everywhere())?;
-    show(&rt, "a plain list", books::plain())?;
-    show(&rt, "a list settled by its end", books::by_its_end())
+    for (name, file) in BOOKS {
+        show(&rt, name, file)?;
+    }
+    Ok(())
 }
