@@ -1,71 +1,38 @@
 // What calls answered, as it is printed.
-use book::books::StrikeError;
-use book::files::LoadError;
-use book::rules::EnterError;
-use card::refusals::ReadError;
+use crate::refusals::Refusal;
 use reading::outcomes::{Outcome, Step, Verdict};
 use std::fmt;
-use tables::building::BuildError;
 
-// A refusal has its number, and what it names.
 #[derive(Clone, Copy)]
 pub(crate) enum Answer {
     Granted,
     States(usize),
-    Refused(u8),
-    RefusedAt { number: u8, byte: usize },
-    Useless(u8),
-    Conflict { state: u8, symbol: u8 },
     Read(Outcome),
+    Refused(Refusal),
+}
+
+impl From<()> for Answer {
+    fn from(_granted: ()) -> Answer {
+        Answer::Granted
+    }
+}
+
+impl From<Outcome> for Answer {
+    fn from(outcome: Outcome) -> Answer {
+        Answer::Read(outcome)
+    }
+}
+
+impl<T: Into<Answer>, E: Into<Refusal>> From<Result<T, E>> for Answer {
+    fn from(call: Result<T, E>) -> Answer {
+        match call {
+            Ok(value) => value.into(),
+            Err(error) => Answer::Refused(error.into()),
+        }
+    }
 }
 
 impl Answer {
-    pub(crate) fn of_load(answer: Result<(), LoadError>) -> Answer {
-        match answer {
-            Ok(()) => Answer::Granted,
-            Err(LoadError::Kind(byte)) => Answer::RefusedAt { number: 15, byte },
-            Err(LoadError::Ended(byte)) => Answer::RefusedAt { number: 16, byte },
-            Err(LoadError::Enter(byte, _)) => Answer::RefusedAt { number: 17, byte },
-            Err(LoadError::Count(byte)) => Answer::RefusedAt { number: 18, byte },
-            Err(LoadError::Trailing(byte)) => Answer::RefusedAt { number: 19, byte },
-        }
-    }
-
-    pub(crate) fn of_enter(answer: Result<(), EnterError>) -> Answer {
-        match answer {
-            Ok(()) => Answer::Granted,
-            Err(EnterError::Full) => Answer::Refused(1),
-            Err(EnterError::Left) => Answer::Refused(2),
-            Err(EnterError::Length) => Answer::Refused(3),
-            Err(EnterError::Code(_)) => Answer::Refused(4),
-            Err(EnterError::Duplicate) => Answer::Refused(5),
-        }
-    }
-
-    pub(crate) fn of_strike(answer: Result<(), StrikeError>) -> Answer {
-        match answer {
-            Ok(()) => Answer::Granted,
-            Err(StrikeError::Missing) => Answer::Refused(6),
-        }
-    }
-
-    pub(crate) fn of_build(answer: Result<(), BuildError>) -> Answer {
-        match answer {
-            Ok(()) => Answer::Granted,
-            Err(BuildError::Rules) => Answer::Refused(1),
-            Err(BuildError::Useless(code)) => Answer::Useless(code),
-            Err(BuildError::States) => Answer::Refused(8),
-            Err(BuildError::Conflict(state, symbol)) => Answer::Conflict { state, symbol },
-        }
-    }
-
-    pub(crate) fn of_read(answer: Result<Outcome, ReadError>) -> Answer {
-        match answer {
-            Ok(outcome) => Answer::Read(outcome),
-            Err(ReadError::NotBuilt) => Answer::Refused(10),
-        }
-    }
-
     pub(crate) fn is_granted(&self) -> bool {
         matches!(self, Answer::Granted)
     }
@@ -76,10 +43,7 @@ impl Answer {
             Answer::Read(outcome) => outcome.steps,
             _ => 0,
         };
-        match list.split_at_checked(count) {
-            Some((written, _)) => Steps(written),
-            None => Steps(list),
-        }
+        Steps(list.get(..count).unwrap_or(list))
     }
 }
 
@@ -88,14 +52,8 @@ impl fmt::Display for Answer {
         match self {
             Answer::Granted => write!(f, "granted"),
             Answer::States(count) => write!(f, "{count} states"),
-            Answer::Refused(number) => write!(f, "refused {number}"),
-            Answer::RefusedAt { number, byte } => write!(f, "refused {number}, byte {byte}"),
-            Answer::Useless(code) => write!(f, "refused 7, code {code}"),
-            Answer::Conflict { state, symbol } => write!(
-                f,
-                "refused 9, state {state}, symbol {symbol}"
-            ),
             Answer::Read(outcome) => show(outcome, f),
+            Answer::Refused(refusal) => write!(f, "{refusal}"),
         }
     }
 }

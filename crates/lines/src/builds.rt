@@ -9,7 +9,7 @@ const MOST_STATES: usize = 200;
 const ACTIONS: usize = 81;
 
 fn build_by<L: Lookahead>(card: &mut Card, look: &L) -> Answer {
-    Answer::of_build(card.build(look))
+    card.build(look).into()
 }
 
 // Builds a card under LSLR.
@@ -24,12 +24,9 @@ pub(crate) fn build(card: &mut Card) -> Answer {
 
 // How many rows a card answers.
 fn rows(card: &Card, row: &mut [u16]) -> usize {
-    for state in 0..MOST_STATES {
-        if card.row(state, row).is_err() {
-            return state;
-        }
-    }
-    MOST_STATES
+    (0..MOST_STATES)
+        .take_while(|state| card.row(*state, row).is_ok())
+        .count()
 }
 
 // A build's answer, with how many states there are.

@@ -6,6 +6,7 @@ mod books;
 mod builds;
 mod limits;
 mod reads;
+mod refusals;
 mod service;
 
 use std::io;

@@ -3,12 +3,13 @@ use crate::answers::Answer;
 use crate::books;
 use crate::books::{Known, bytes_of};
 use crate::builds::build;
+use crate::refusals::Refusal;
 use card::card::Card;
 use reading::outcomes::Step;
 use source::sources::Source;
-use source::tapes::{Tape, TapeError};
-use source::texts::{TABLE_SIZE, Text, TextError};
-use std::io;
+use source::tapes::Tape;
+use source::texts::{TABLE_SIZE, Text};
+use std::{array, io};
 
 // A place of a list that nothing was written to.
 pub(crate) const NO_STEP: Step = Step {
@@ -19,37 +20,28 @@ pub(crate) const NO_STEP: Step = Step {
 
 // A letter table in which each terminal's code stands for it.
 fn letters() -> [u8; TABLE_SIZE] {
-    let mut table = [0; TABLE_SIZE];
-    for k in 1..41u8 {
-        table[k as usize] = k;
-    }
-    table
+    array::from_fn(|byte| if byte <= 40 { byte as u8 } else { 0 })
 }
 
-fn read_source<S: Source>(card: &mut Card, source: &mut S, list: &mut [Step]) -> Answer {
-    Answer::of_read(card.read(source, list))
+// Reads a source, if it was made.
+fn read<S: Source + Drop, E: Into<Refusal>>(
+    card: &mut Card,
+    source: Result<S, E>,
+    list: &mut [Step],
+) -> Answer {
+    match source {
+        Ok(mut source) => card.read(&mut source, list).into(),
+        Err(error) => Answer::Refused(error.into()),
+    }
 }
 
 // Reads a text whose bytes are the words.
 pub(crate) fn read_text(card: &mut Card, words: &[u8], list: &mut [Step]) -> Answer {
-    match Text::new(words, &letters()) {
-        Ok(text) => {
-            let mut text = text;
-            read_source(card, &mut text, list)
-        }
-        Err(TextError::Long) => Answer::Refused(22),
-        Err(TextError::Table) => Answer::Refused(23),
-    }
+    read(card, Text::new(words, &letters()), list)
 }
 
 pub(crate) fn read_tape(card: &mut Card, bytes: &[u8], list: &mut [Step]) -> Answer {
-    match Tape::new(bytes) {
-        Ok(tape) => {
-            let mut tape = tape;
-            read_source(card, &mut tape, list)
-        }
-        Err(TapeError::Long) => Answer::Refused(22),
-    }
+    read(card, Tape::new(bytes), list)
 }
 
 fn tell(rt: &HostRuntime, name: &str, line: &str, answer: Answer, list: &[Step]) -> io::Result<()> {

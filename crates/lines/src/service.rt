@@ -86,9 +86,9 @@ fn numbers(call: &Call) -> &'static str {
 // Makes a call with its numbers.
 fn make(card: &mut Card, call: &Call, numbers: &[u8], list: &mut [Step]) -> Answer {
     match call {
-        Call::Load(_) => Answer::of_load(card.load(numbers)),
-        Call::Enter(left, _) => Answer::of_enter(card.enter(*left, numbers)),
-        Call::Strike(number) => Answer::of_strike(card.strike(*number)),
+        Call::Load(_) => card.load(numbers).into(),
+        Call::Enter(left, _) => card.enter(*left, numbers).into(),
+        Call::Strike(number) => card.strike(*number).into(),
         Call::Build => build(card),
         Call::Read(_) => read_text(card, numbers, list),
     }

@@ -1,6 +1,7 @@
 // pace [times]: reads long lines, and prints what came of it; with a word behind it, how fast they are read.
 #![tactic(auto)]
 
+mod lines;
 mod reads;
 
 use std::{env, io};

@@ -1,4 +1,5 @@
 // Lines of 1,000 words, read.
+use crate::lines::{Line, letters, tape_line, text_line};
 use card::card::Card;
 use grammar::lookaheads::{LeftmostFollow, SlrIfAdequate};
 use reading::outcomes::{Outcome, Step, Verdict};
@@ -8,11 +9,9 @@ use source::texts::Text;
 use std::io;
 use std::time::Instant;
 
-const WORDS: usize = 1000;
-
-const TAPE_BYTES: usize = 2001;
-
 const PLACES: usize = 4000;
+
+const TIMES: usize = 10_000;
 
 // A list that grows to the right: 41 -> 41 1, 41 -> 1.
 const LIST: [u8; 9] = [2, 41, 41, 1, 1, 41, 1, 7, 2];
@@ -23,151 +22,56 @@ const LATE: [u8; 30] = [
     45, 1, 7, 8,
 ];
 
-// Ones, and then this word, as bytes that stand for themselves.
-fn text_line(last: u8) -> [u8; WORDS] {
-    let mut line = [1; WORDS];
-    line[WORDS - 1] = last;
-    line
-}
-
-// The same line as a tape.
-fn tape_line(last: u8) -> [u8; TAPE_BYTES] {
-    let mut line = [1; TAPE_BYTES];
-    for k in 0..WORDS {
-        line[2 * k] = 8;
-    }
-    line[TAPE_BYTES - 2] = last;
-    line[TAPE_BYTES - 1] = 9;
-    line
-}
-
-// A letter table in which each terminal's code stands for it.
-fn letters() -> [u8; 256] {
-    let mut table = [0; 256];
-    for k in 1..41u8 {
-        table[k as usize] = k;
-    }
-    table
-}
-
-// Reads a source; how many words were taken and steps written if it was accepted.
-fn accepted<S: Source>(card: &mut Card, source: &mut S, list: &mut [Step]) -> Option<Outcome> {
-    match card.read(source, list) {
-        Ok(outcome) => match outcome.verdict {
-            Verdict::Accepted => Some(outcome),
-            _ => None,
-        },
-        Err(_) => None,
-    }
-}
-
-fn read_tape(card: &mut Card, line: &[u8], list: &mut [Step]) -> Option<Outcome> {
-    match Tape::new(line) {
-        Ok(tape) => {
-            let mut tape = tape;
-            accepted(card, &mut tape, list)
-        }
-        Err(_) => None,
-    }
-}
-
-fn read_text(card: &mut Card, line: &[u8], letters: &[u8], list: &mut [Step]) -> Option<Outcome> {
-    match Text::new(line, letters) {
-        Ok(text) => {
-            let mut text = text;
-            accepted(card, &mut text, list)
-        }
-        Err(_) => None,
-    }
-}
-
-// What a read answered.
-fn show(rt: &HostRuntime, name: &str, answer: Option<Outcome>) -> io::Result<()> {
-    match answer {
-        Some(outcome) => {
-            let steps = outcome.steps;
-            let words = outcome.words;
-            rt.println(format!(in rt.alloc(); "{name}: {words} words, {steps} steps")?)
-        }
-        None => rt.println(format!(in rt.alloc(); "{name}: refused")?),
-    }
-}
-
-// So many reads of lines of 1,000 words took this long.
-fn show_rate(rt: &HostRuntime, name: &str, times: usize, micros: u128) -> io::Result<()> {
-    let words = (times as u128).saturating_mul(1000);
-    let rate = words.checked_div(micros).unwrap_or(0);
-    rt.println(format!(in rt.alloc(); "{name}: {rate} million words a second")?)
-}
-
-// Reads a tape again and again; how many microseconds that takes.
-fn time_tape(
-    rt: &HostRuntime,
+// Reads a source that was made; what came of it if it was accepted.
+fn accepted<S: Source + Drop>(
     card: &mut Card,
-    line: &[u8],
+    source: Option<S>,
     list: &mut [Step],
-    times: usize,
-) -> io::Result<u128> {
-    let start = Instant::now(rt)?;
-    for _ in 0..times {
-        let _ = read_tape(card, line, list);
-    }
-    Ok(start.elapsed(rt)?.as_micros())
+) -> Option<Outcome> {
+    let mut source = source?;
+    let outcome = card.read(&mut source, list).ok()?;
+    (outcome.verdict == Verdict::Accepted).then_some(outcome)
 }
 
-// The same for a text.
-fn time_text(
+fn read(card: &mut Card, line: Line, list: &mut [Step]) -> Option<Outcome> {
+    match line {
+        Line::Tape(bytes) => accepted(card, Tape::new(bytes).ok(), list),
+        Line::Text(bytes, letters) => accepted(card, Text::new(bytes, letters).ok(), list),
+    }
+}
+
+// What a read of a line answers.
+fn show(
     rt: &HostRuntime,
+    name: &str,
     card: &mut Card,
-    line: &[u8],
+    line: Line,
     list: &mut [Step],
-    times: usize,
-) -> io::Result<u128> {
-    let letters = letters();
-    let start = Instant::now(rt)?;
-    for _ in 0..times {
-        let _ = read_text(card, line, &letters, list);
+) -> io::Result<()> {
+    match read(card, line, list) {
+        Some(Outcome { words, steps, .. }) => {
+            println!(rt; "{name}, {line}: {words} words, {steps} steps")
+        }
+        None => println!(rt; "{name}, {line}: refused"),
     }
-    Ok(start.elapsed(rt)?.as_micros())
 }
 
-// How fast a tape and a text are read.
+// How fast a line is read, again and again.
 fn time(
     rt: &HostRuntime,
     name: &str,
     card: &mut Card,
-    last: u8,
+    line: Line,
     list: &mut [Step],
 ) -> io::Result<()> {
-    let times = 10_000;
-    let micros = time_tape(rt, card, &tape_line(last), list, times)?;
-    show_rate(
-        rt,
-        format!(in rt.alloc(); "{name}, tape")?.as_str(),
-        times,
-        micros,
-    )?;
-    let micros = time_text(rt, card, &text_line(last), list, times)?;
-    show_rate(
-        rt,
-        format!(in rt.alloc(); "{name}, text")?.as_str(),
-        times,
-        micros,
-    )
-}
-
-// What a read of a tape and of a text answers.
-fn tell(
-    rt: &HostRuntime,
-    name: &str,
-    card: &mut Card,
-    last: u8,
-    list: &mut [Step],
-) -> io::Result<()> {
-    let answer = read_tape(card, &tape_line(last), list);
-    show(rt, format!(in rt.alloc(); "{name}, tape")?.as_str(), answer)?;
-    let answer = read_text(card, &text_line(last), &letters(), list);
-    show(rt, format!(in rt.alloc(); "{name}, text")?.as_str(), answer)
+    let start = Instant::now(rt)?;
+    for _ in 0..TIMES {
+        let _ = read(card, line, list);
+    }
+    let micros = start.elapsed(rt)?.as_micros();
+    let words = (TIMES as u128).saturating_mul(1000);
+    let rate = words.checked_div(micros).unwrap_or(0);
+    println!(rt; "{name}, {line}: {rate} million words a second")
 }
 
 // A card with the book of a file, built.
@@ -176,30 +80,32 @@ fn card_of(file: &[u8]) -> Option<Card> {
     let look = SlrIfAdequate {
         below: LeftmostFollow,
     };
-    if card.load(file).is_err() || card.build(&look).is_err() {
-        return None;
-    }
+    card.load(file).ok()?;
+    card.build(&look).ok()?;
     Some(card)
 }
 
-// Reads the line with this last word by the book of a file.
+// Reads the line with this last word, as a tape and as a text, by the book of a file.
 fn read_line(rt: &HostRuntime, name: &str, file: &[u8], last: u8, timed: bool) -> io::Result<()> {
     let mut list = [Step {
         rule: 0,
         first: 0,
         width: 0,
     }; PLACES];
-    match card_of(file) {
-        Some(card) => {
-            let mut card = card;
-            if timed {
-                time(rt, name, &mut card, last, &mut list)
-            } else {
-                tell(rt, name, &mut card, last, &mut list)
-            }
+    let Some(mut card) = card_of(file) else {
+        return println!(rt; "{name}: not built");
+    };
+    let tape = tape_line(last);
+    let text = text_line(last);
+    let letters = letters();
+    for line in [Line::Tape(&tape), Line::Text(&text, &letters)] {
+        if timed {
+            time(rt, name, &mut card, line, &mut list)?;
+        } else {
+            show(rt, name, &mut card, line, &mut list)?;
         }
-        None => rt.println(format!(in rt.alloc(); "{name}: not built")?),
     }
+    Ok(())
 }
 
 // Reads a line of each book, and says what came of it or how fast it is.

@@ -1,0 +1,108 @@
+// Refused calls, by their errors, as they are printed.
+use book::books::StrikeError;
+use book::files::LoadError;
+use book::rules::EnterError;
+use card::refusals::ReadError;
+use source::tapes::TapeError;
+use source::texts::TextError;
+use std::fmt;
+use tables::building::BuildError;
+
+#[derive(Clone, Copy)]
+pub(crate) enum Refusal {
+    Enter(EnterError),
+    Strike(StrikeError),
+    Build(BuildError),
+    Read(ReadError),
+    Load(LoadError),
+    Text(TextError),
+    Tape(TapeError),
+}
+
+impl From<EnterError> for Refusal {
+    fn from(error: EnterError) -> Refusal {
+        Refusal::Enter(error)
+    }
+}
+
+impl From<StrikeError> for Refusal {
+    fn from(error: StrikeError) -> Refusal {
+        Refusal::Strike(error)
+    }
+}
+
+impl From<BuildError> for Refusal {
+    fn from(error: BuildError) -> Refusal {
+        Refusal::Build(error)
+    }
+}
+
+impl From<ReadError> for Refusal {
+    fn from(error: ReadError) -> Refusal {
+        Refusal::Read(error)
+    }
+}
+
+impl From<LoadError> for Refusal {
+    fn from(error: LoadError) -> Refusal {
+        Refusal::Load(error)
+    }
+}
+
+impl From<TextError> for Refusal {
+    fn from(error: TextError) -> Refusal {
+        Refusal::Text(error)
+    }
+}
+
+impl From<TapeError> for Refusal {
+    fn from(error: TapeError) -> Refusal {
+        Refusal::Tape(error)
+    }
+}
+
+impl Refusal {
+    fn number(&self) -> u8 {
+        match self {
+            Refusal::Enter(EnterError::Full) | Refusal::Build(BuildError::Rules) => 1,
+            Refusal::Enter(EnterError::Left) => 2,
+            Refusal::Enter(EnterError::Length) => 3,
+            Refusal::Enter(EnterError::Code(_)) => 4,
+            Refusal::Enter(EnterError::Duplicate) => 5,
+            Refusal::Strike(StrikeError::Missing) => 6,
+            Refusal::Build(BuildError::Useless(_)) => 7,
+            Refusal::Build(BuildError::States) => 8,
+            Refusal::Build(BuildError::Conflict(_, _)) => 9,
+            Refusal::Read(ReadError::NotBuilt) => 10,
+            Refusal::Load(LoadError::Kind(_)) => 15,
+            Refusal::Load(LoadError::Ended(_)) => 16,
+            Refusal::Load(LoadError::Enter(_, _)) => 17,
+            Refusal::Load(LoadError::Count(_)) => 18,
+            Refusal::Load(LoadError::Trailing(_)) => 19,
+            Refusal::Text(TextError::Long) | Refusal::Tape(TapeError::Long) => 22,
+            Refusal::Text(TextError::Table) => 23,
+        }
+    }
+}
+
+// The number, and what the refusal names.
+impl fmt::Display for Refusal {
+    fn fmt<W: fmt::Write>(&self, f: &mut fmt::Formatter<W>) -> fmt::Result {
+        let number = self.number();
+        match *self {
+            Refusal::Load(
+                LoadError::Kind(byte)
+                | LoadError::Ended(byte)
+                | LoadError::Enter(byte, _)
+                | LoadError::Count(byte)
+                | LoadError::Trailing(byte),
+            ) => write!(f, "refused {number}, byte {byte}"),
+            Refusal::Build(BuildError::Useless(code)) => write!(f, "refused {number}, code {code}"),
+            Refusal::Build(BuildError::Conflict(state, symbol)) => write!(
+                f,
+                "refused {number}, state {state}, symbol {symbol}"
+            ),
+            _ => write!(f, "refused {number}"),
+        }
+    }
+}
