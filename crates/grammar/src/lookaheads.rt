@@ -97,6 +97,7 @@ fn is_conflicting(sets: &RelationSets, rules: &[Rule], closed: &[DotRow]) -> boo
     ensures { result ≡ slr_conflicting (related_by sets.now (productions_of rules.now)) closed.now }
 {
     let mut seen = reads(rules, closed);
+    // Stays a range: the number itself is asked about, from the outer rule's 0 on, and nothing is indexed.
     for number in 0..=rules.len() {
         if is_complete(rules, closed, number) {
             let lookahead = lookahead_of(&Slr, sets, rules, closed, number);

@@ -124,6 +124,7 @@ fn leftmosts(rights: &SymbolTable, rules: &[Rule]) -> SymbolTable
 pub(crate) fn unite(set: &mut SymbolSet, other: &SymbolSet)
     ensures { set.new ≡ union set.old other.now }
 {
+    // Stays an index into the other set: an invariant can't name what a zip with `iter_mut` writes, so the clause stayed open.
     for (x, is_in) in set.iter_mut().enumerate() {
         *is_in |= other[x];
     }
@@ -147,6 +148,7 @@ fn followers(lefts: &SymbolTable, leftmosts: &SymbolTable) -> SymbolTable
 {
     let mut all = [[false; SYMBOLS]; SYMBOLS];
     for (a, set) in all.iter_mut().enumerate() {
+        // Stays an index, as in `unite`. Of the closure of `leftmosts.map(..)` nothing is inferred, since it answers an array.
         *set = followers_of(lefts, &leftmosts[a]);
     }
     all

@@ -1,12 +1,9 @@
-use Rattle.std.proofs.Common.{◌+◌, ◌-◌, sym, refl, ap, ◌∙◌}
+use Rattle.std.proofs.Common.{◌+◌, ◌-◌, sym, ap, ◌∙◌}
 use Rattle.book.specs.Held.{productions_of}
 use Rattle.grammar.specs.Sets.{Flags, symbol_count, times, through}
 use Rattle.grammar.specs.Rounds.{times_still}
-use Rattle.grammar.proofs.Turns.{times_more, times_done}
+use Rattle.grammar.proofs.Turns.{times_more}
 use Rattle.grammar.proofs.growing.saturate.Goals as goal
-
-pub loop-init : goal.loop-init
-loop-init g c = refl
 
 pub returns-then-not-round : goal.returns-then-not-round
 returns-then-not-round g c =
@@ -19,8 +16,3 @@ loop-preserved g c =
     let f : Flags → Flags = through (g.G.Growth.grown c.args.growth.now) (productions_of c.args.rules.now) in
     let k = c.loop.counter in
     ap (times f (symbol_count - (k + 1))) c.round.ensures.after ∙ sym (times_more f symbol_count k c.loop.set c.loop-test.true) ∙ c.loop.invariant
-
-pub returns : goal.returns
-returns g c =
-    let f : Flags → Flags = through (g.G.Growth.grown c.args.growth.now) (productions_of c.args.rules.now) in
-    sym (times_done f symbol_count c.loop.counter c.loop.set c.loop-test.false) ∙ c.loop.invariant

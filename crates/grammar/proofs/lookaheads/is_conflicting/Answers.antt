@@ -94,9 +94,3 @@ returns-after-is_complete c =
           ∙ past_here rel ls c.args.closed.now c.loop-number.number c.loop-number.seen inside _ c.is_complete.ensures w.if-is_complete.false _ w.seen-is
           ∙ c.loop-number.invariant
     ]
-
-pub returns : goal.returns
-returns c =
-    sym (none_left (related_by c.args.sets.now (productions_of c.args.rules.now)) (productions_of c.args.rules.now) c.args.closed.now c.loop-number.number c.loop-number.seen
-    (omega (arith, length-map c.args.rules.now production_of, c.loop-number-test.false)))
-    ∙ c.loop-number.invariant

@@ -1,26 +1,16 @@
-use Rattle.std.proofs.Common.{◌≡◌, ℕ, ◌+◌, Bool, true, false, List, [], get_or, drop, sym, ap, ◌∙◌}
-use Rattle.std.proofs.lemmas.List.{at_drop_more, at_drop_all}
+use Rattle.std.proofs.Common.{◌≡◌, ℕ, ◌+◌, List, [], get_or, drop, sym, ap, ◌∙◌}
+use Rattle.std.proofs.lemmas.List.{at_drop_more}
 use Rattle.book.specs.Held.{production_of, productions_of}
 use Rattle.book.specs.Rules.{Production}
 use Rattle.grammar.specs.Numbered.{first}
 use Rattle.grammar.specs.Relations.{behind}
-use Rattle.grammar.specs.Sets.{Flags, has, none, only, through}
+use Rattle.grammar.specs.Sets.{Flags, has, through}
 use Rattle.grammar.proofs.relations.leftmost_of.Goals as goal
 use Rattle.grammar.proofs.relations.leftmost_of.Goals.{then-related, else-related}
 
 -- what one rule adds
 abbrev step : List Flags → ℕ → Flags → Production → Flags
 step rights a s p = behind (λ x. has (get_or rights x []) a) s (first p) (drop 1 p.rhs)
-
-pub loop-rule-init : goal.loop-rule-init
-loop-rule-init c =
-    let start : Bool → Flags = λ t. elim t [ true ↦ only 0 | false ↦ none ] in
-    let begun : c.if-related.set ≡ start (has (get_or c.args.rights.now 41 []) c.args.a) =
-    elim c.if-related.branch [
-      | then-related w ↦ w.set-is ∙ w.insert.ensures.after ∙ ap start w.if-related.ensures
-      | else-related w ↦ w.set-is ∙ ap start w.if-related.ensures
-    ] in
-    ap (through (step c.args.rights.now c.args.a) (productions_of c.args.rules.now)) begun
 
 pub loop-rule-preserved : goal.loop-rule-preserved
 loop-rule-preserved c =
@@ -35,8 +25,3 @@ loop-rule-preserved c =
     ∙ ap (λ r. through f rest (f s (production_of r))) c.rule-item.is
     ∙ sym (at_drop_more (λ rs. through f (productions_of rs) s) rules i c.rule-item.result c.loop-rule-test.true)
     ∙ c.loop-rule.invariant
-
-pub returns : goal.returns
-returns c =
-    let f : Flags → Production → Flags = step c.args.rights.now c.args.a in
-    sym (at_drop_all (λ rs. through f (productions_of rs) c.loop-rule.set) c.args.rules.now c.loop-rule.rule-index c.loop-rule-test.false) ∙ c.loop-rule.invariant
