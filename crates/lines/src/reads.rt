@@ -8,8 +8,8 @@ use card::card::Card;
 use reading::outcomes::Step;
 use source::sources::Source;
 use source::tapes::Tape;
-use source::texts::{TABLE_SIZE, Text};
-use std::{array, io};
+use source::texts::{Text, code_letters};
+use std::io;
 
 // A place of a list that nothing was written to.
 pub(crate) const NO_STEP: Step = Step {
@@ -17,11 +17,6 @@ pub(crate) const NO_STEP: Step = Step {
     first: 0,
     width: 0,
 };
-
-// A letter table in which each terminal's code stands for it.
-fn letters() -> [u8; TABLE_SIZE] {
-    array::from_fn(|byte| if byte <= 40 { byte as u8 } else { 0 })
-}
 
 // Reads a source, if it was made.
 fn read<S: Source + Drop, E: Into<Refusal>>(
@@ -37,7 +32,7 @@ fn read<S: Source + Drop, E: Into<Refusal>>(
 
 // Reads a text whose bytes are the words.
 pub(crate) fn read_text(card: &mut Card, words: &[u8], list: &mut [Step]) -> Answer {
-    read(card, Text::new(words, &letters()), list)
+    read(card, Text::new(words, &code_letters()), list)
 }
 
 pub(crate) fn read_tape(card: &mut Card, bytes: &[u8], list: &mut [Step]) -> Answer {

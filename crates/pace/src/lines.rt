@@ -35,8 +35,3 @@ pub(crate) fn tape_line(last: u8) -> [u8; TAPE_BYTES] {
     line[TAPE_BYTES - 1] = 9;
     line
 }
-
-// A letter table in which each terminal's code stands for it.
-pub(crate) fn letters() -> [u8; 256] {
-    array::from_fn(|byte| if byte <= 40 { byte as u8 } else { 0 })
-}

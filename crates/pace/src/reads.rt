@@ -1,11 +1,11 @@
 // Lines of 1,000 words, read.
-use crate::lines::{Line, letters, tape_line, text_line};
+use crate::lines::{Line, tape_line, text_line};
 use card::card::Card;
 use grammar::lookaheads::{LeftmostFollow, SlrIfAdequate};
 use reading::outcomes::{Outcome, Step, Verdict};
 use source::sources::Source;
 use source::tapes::Tape;
-use source::texts::Text;
+use source::texts::{Text, code_letters};
 use std::io;
 use std::time::Instant;
 
@@ -97,7 +97,7 @@ fn read_line(rt: &HostRuntime, name: &str, file: &[u8], last: u8, timed: bool) -
     };
     let tape = tape_line(last);
     let text = text_line(last);
-    let letters = letters();
+    let letters = code_letters();
     for line in [Line::Tape(&tape), Line::Text(&text, &letters)] {
         if timed {
             time(rt, name, &mut card, line, &mut list)?;

@@ -1,13 +1,15 @@
 // A text: each byte is looked up in a letter table of 256 codes.
-ghost use Rattle.std.specs.Prelude.{◌≡◌, drop};
+ghost use Rattle.std.specs.Prelude.{◌≡◌, ℕ, ◌<◌, drop, slice_index, if◌then◌else◌};
 ghost use Rattle.book.specs.Answers.{said_of};
+ghost use Rattle.book.specs.Symbols.{is_terminal};
 ghost use Rattle.source.specs.Laws.{text_terminals};
 ghost use Rattle.source.specs.Refusals.{text_refusal};
 ghost use Rattle.source.specs.Texts.{text_from, text_says};
 
 use crate::faults::Fault;
 use crate::sources::{Source, Taken};
-use book::symbols::is_terminal;
+use book::symbols::{LAST_TERMINAL, is_terminal};
+use std::array;
 
 // How many bytes a text or a tape has at the most.
 pub const MOST_BYTES: usize = 60_000;
@@ -43,6 +45,24 @@ impl<'a, 'b> Text<'a, 'b> {
             place: 0,
         })
     }
+}
+
+// A terminal's code for the byte that is that code, and no terminal's for any other byte.
+fn letter(byte: usize) -> u8
+    ensures { result ≡ (if is_terminal byte then byte else 0) }
+{
+    if byte <= LAST_TERMINAL as usize {
+        byte as u8
+    } else {
+        0
+    }
+}
+
+// The letter table by which each terminal's code, as a byte, stands for itself.
+pub fn code_letters() -> [u8; TABLE_SIZE]
+    ensures { (byte : ℕ) → byte < 256 → slice_index result byte ≡ (if is_terminal byte then byte else 0) }
+{
+    array::from_fn(letter)
 }
 
 impl Source for Text<'_, '_> {
