@@ -16,10 +16,7 @@ fn actions_in(row: &Row) -> usize {
 // What a build of the book gives.
 fn show(rt: &HostRuntime, name: &str, book: &Book) -> io::Result<()> {
     let mut tables = Tables::new();
-    if tables
-        .fill(book.rules(), &LSLR)
-        .is_err()
-    {
+    if tables.fill(book.rules(), &LSLR).is_err() {
         return println!(rt; "{name}: refused");
     }
     let actions = tables

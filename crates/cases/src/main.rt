@@ -5,7 +5,7 @@ mod books;
 
 use book::books::Book;
 use books::BOOKS;
-use grammar::lookaheads::{LeftmostFollow, Lookahead, Slr, SlrIfAdequate};
+use grammar::lookaheads::{LSLR, LeftmostFollow, Lookahead, Slr};
 use std::{fmt, io};
 use tables::building::{BuildError, Tables};
 
@@ -45,12 +45,7 @@ fn show(rt: &HostRuntime, name: &str, file: &[u8]) -> io::Result<()> {
     }
     let slr = build(&book, &Slr);
     let leftmost = build(&book, &LeftmostFollow);
-    let eased = build(
-        &book,
-        &SlrIfAdequate {
-            below: LeftmostFollow,
-        },
-    );
+    let eased = build(&book, &LSLR);
     println!(rt; "{name}: SLR {slr}; leftmost {leftmost}; LSLR {eased}")
 }
 

@@ -1,25 +1,16 @@
 // What a build of a card answers.
 use crate::answers::Answer;
 use card::card::Card;
-use grammar::lookaheads::{LeftmostFollow, Lookahead, SlrIfAdequate};
+use grammar::lookaheads::LSLR;
 
 // How many states there are at the most, and actions in a row.
 const MOST_STATES: usize = 200;
 
 const ACTIONS: usize = 81;
 
-fn build_by<L: Lookahead>(card: &mut Card, look: &L) -> Answer {
-    card.build(look).into()
-}
-
 // Builds a card under LSLR.
 pub(crate) fn build(card: &mut Card) -> Answer {
-    build_by(
-        card,
-        &SlrIfAdequate {
-            below: LeftmostFollow,
-        },
-    )
+    card.build(&LSLR).into()
 }
 
 // How many rows a card answers.

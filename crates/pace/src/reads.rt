@@ -1,7 +1,7 @@
 // Lines of 1,000 words, read.
 use crate::lines::{Line, tape_line, text_line};
 use card::card::Card;
-use grammar::lookaheads::{LeftmostFollow, SlrIfAdequate};
+use grammar::lookaheads::LSLR;
 use reading::outcomes::{Outcome, Step, Verdict};
 use source::sources::Source;
 use source::tapes::Tape;
@@ -77,11 +77,8 @@ fn time(
 // A card with the book of a file, built.
 fn card_of(file: &[u8]) -> Option<Card> {
     let mut card = Card::new();
-    let look = SlrIfAdequate {
-        below: LeftmostFollow,
-    };
     card.load(file).ok()?;
-    card.build(&look).ok()?;
+    card.build(&LSLR).ok()?;
     Some(card)
 }
 

@@ -2,7 +2,7 @@
 use crate::building::{BuildError, RowError, Tables};
 use crate::encoding::word_of;
 use book::books::Book;
-use grammar::lookaheads::{LeftmostFollow, Slr, SlrIfAdequate};
+use grammar::lookaheads::{LSLR, LeftmostFollow, Slr};
 use std::test::Fail;
 
 // A list: a 2, and a 1 for each further place.
@@ -71,12 +71,7 @@ fn as_many_states_as_there_may_be(rt: HostRuntime) -> Result<(), Fail> {
         book.enter(41, &[k, k, k, k, k, k])?;
     }
     let mut tables = Tables::new();
-    tables.fill(
-        book.rules(),
-        &SlrIfAdequate {
-            below: LeftmostFollow,
-        },
-    )?;
+    tables.fill(book.rules(), &LSLR)?;
     assert_eq!(rt; tables.rows().len(), 200);
     book.enter(41, &[34])?;
     assert_eq!(rt; tables.fill(book.rules(), &Slr), Err(BuildError::States));

@@ -11,7 +11,7 @@ ghost use Rattle.translate.specs.Tellings.{told_read, told_source, told_tape, to
 ghost use Rattle.translate.specs.Translations.{most_text, translation};
 
 use card::card::Card;
-use grammar::lookaheads::{LeftmostFollow, SlrIfAdequate};
+use grammar::lookaheads::LSLR;
 use reading::outcomes::Step;
 use report::reports::{ReportError, report_error, report_read, report_tape};
 use source::skips::Skip;
@@ -71,10 +71,7 @@ fn build_lslr(card: &mut Card) -> Result<(), BuildError>
     ensures answer { said build_refusal result ≡ and_then (build_says lslr (model_of card.old).held_rules) (λ _. granted tt) }
     ensures model { model_of card.new ≡ after_build (model_of card.old) lslr }
 {
-    let look = SlrIfAdequate {
-        below: LeftmostFollow,
-    };
-    card.build(&look)
+    card.build(&LSLR)
 }
 
 // Builds the card and reads a tape, and tells of what ended the run.
