@@ -1,8 +1,11 @@
 -- A script keeps the bounds of a book, and the file of a book within its bounds fits the program's buffer.
-use Rattle.std.proofs.Common.{◌≡◌, ℕ, ◌*◌, ◌≤◌, Bool, true, false, cond, ◌&&◌, leb, List, [], ◌∷◌, length, Some, None, Option, refl, ap, arith, length-append}
+use Rattle.std.proofs.Common.{Ok, Err, Result, ◌≡◌, ℕ, ◌*◌, ◌≤◌, Bool, true, false, cond, ◌&&◌, leb, List, [], ◌∷◌, length, Some, None, Option, refl, ap, arith, length-append}
 use Rattle.std.proofs.lemmas.Bool.{and_parts, leb-true, le-ltb}
 use Rattle.std.specs.List.{flat_map}
-use Rattle.book.specs.Answers.{Answer, granted, refused, no, refuse_if, leaves}
+use Rattle.book.specs.Answers.{Answer, granted, refused, no, refuse_if, leaves, said, and_then}
+use Rattle.book.specs.Refusals.{load_refusal}
+use Rattle.book.specs.declared.files.LoadError.{LoadError}
+use Rattle.std.specs.Result.{is_err}
 use Rattle.book.specs.Files.{record_of, file_of, save_says, load_says, loaded}
 use Rattle.book.specs.Rules.{Production, ◌⟶◌, all_symbols, is_bounded, all_bounded, is_well_formed}
 use Rattle.book.specs.Symbols.{longest_right, within, is_nonterminal}
@@ -59,3 +62,9 @@ by_answer rules (refused n) e = let z : ◌≡◌ {A = ℕ} 0 1 = cc in absurd (
 -- a file that is granted gives the rules after the load
 pub load_grants : (rules : List Production) (bytes : List ℕ) → is_granted (load_says bytes) ≡ true → load_says bytes ≡ granted (loaded rules bytes)
 load_grants rules bytes e = by_answer rules (load_says bytes) e
+
+-- a load without an error is a grant
+pub outcome_granted : (o : Result (Unit {0}) LoadError) (a : Answer (List Production)) → said load_refusal o ≡ and_then a (λ _. granted tt) → is_err o ≡ false → is_granted a ≡ true
+outcome_granted (Ok x) (granted y) e f = refl
+outcome_granted (Ok x) (refused n) e f = let z : ◌≡◌ {A = ℕ} 0 1 = cc in absurd (omega arith)
+outcome_granted (Err x) a e f = let z : ◌≡◌ {A = ℕ} 0 1 = cc in absurd (omega arith)

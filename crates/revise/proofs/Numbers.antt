@@ -1,5 +1,5 @@
 -- One more byte of a number, and one more number of a list.
-use Rattle.std.proofs.Common.{◌≡◌, ℕ, ◌+◌, ◌<◌, Bool, cond, ◌&&◌, leb, List, [], ◌∷◌, ◌++◌, length, get_or, drop, Some, None, Option, sym, refl, ap, ◌∙◌, append_assoc, arith}
+use Rattle.std.proofs.Common.{◌≡◌, ℕ, ◌+◌, ◌<◌, Bool, cond, ◌&&◌, leb, List, [], ◌∷◌, ◌++◌, length, get_or, drop, Some, None, Option, sym, refl, ap, ◌∙◌, append_assoc, append-nil, arith}
 use Rattle.std.proofs.lemmas.List.{at_drop_more}
 use Rattle.std.specs.Option.{option_map}
 use Rattle.revise.specs.Scripts.{is_digit, more_digits, number_from, number_of, before, numbers_of}
@@ -31,3 +31,10 @@ numbers_step limit done more word words pieces n m p e =
     ∙ both done n (numbers_of limit words)
     ∙ ap (λ o. option_map (λ ms. done ++ ms) (before o (numbers_of limit words))) e
     ∙ ap (λ ps. option_map (λ ms. done ++ ms) (numbers_of limit ps)) (sym p)
+
+pub numbers_none : (limit : ℕ) (done word : List ℕ) (words pieces : List (List ℕ)) → pieces ≡ word ∷ words → None ≡ number_of limit word → None ≡ option_map (λ ms. done ++ ms) (numbers_of limit pieces)
+numbers_none limit done word words pieces p e =
+    ap (λ o. option_map (λ ms. done ++ ms) (before o (numbers_of limit words))) e ∙ ap (λ ps. option_map (λ ms. done ++ ms) (numbers_of limit ps)) (sym p)
+
+pub numbers_end : (limit : ℕ) (done : List ℕ) (pieces : List (List ℕ)) → pieces ≡ [] → Some done ≡ option_map (λ ms. done ++ ms) (numbers_of limit pieces)
+numbers_end limit done pieces p = ap Some (sym (append-nil done)) ∙ ap (λ ps. option_map (λ ms. done ++ ms) (numbers_of limit ps)) (sym p)

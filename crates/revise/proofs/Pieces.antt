@@ -1,52 +1,46 @@
--- The first piece of a text, and the pieces after it.
-use Rattle.std.proofs.Common.{◌≡◌, ℕ, suc, ◌+◌, ◌-◌, ◌<◌, ◌≤◌, Bool, true, false, cond, eqb, List, [], ◌∷◌, length, get_or, take, drop, sym, refl, ap, ◌∙◌, ⊎_elim, arith, length-drop, length-take, drop-drop}
-use Rattle.std.proofs.lemmas.List.{at_drop_more, at_drop_all}
-use Rattle.std.proofs.lemmas.Bool.{le-leb, lt-leb, cases_lt, cond-true, cond-false}
-use Rattle.revise.specs.Scripts.{on_first, cut, pieces_from}
+-- The pieces of a text are what std's split gives.
+use Rattle.std.proofs.Common.{◌≡◌, ℕ, ◌+◌, ◌<◌, Bool, true, false, cond, eqb, List, [], ◌∷◌, length, get_or, drop, refl, sym, ap, ◌∙◌, ap₂, arith}
+use Rattle.std.proofs.lemmas.List.{drop_more, at_drop_all}
+use Rattle.std.proofs.lemmas.List.FromFn.{length-enumerate_from, get_or-enumerate_from}
+use Rattle.std.specs.List.{slice_split, onto_first, enumerate_from}
+use Rattle.revise.specs.Scripts.{on_first, cut}
 
--- how many bytes stand before the first mark
-abbrev pub first_at : ℕ → List ℕ → ℕ
-first_at mark [] = 0
-first_at mark (b ∷ bytes) = cond (eqb b mark) 0 (suc (first_at mark bytes))
+-- there is always a piece
+cut_some : (mark : ℕ) (xs : List ℕ) → 0 < length (cut mark xs)
+cut_some mark [] = omega arith
+cut_some mark (x ∷ xs) = go (eqb x mark) (cut mark xs) (cut_some mark xs)
+  where
+    go : (t : Bool) (ps : List (List ℕ)) → 0 < length ps → 0 < length (cond t ([] ∷ ps) (on_first x ps))
+    go true ps h = omega arith
+    go false [] h = absurd (omega arith)
+    go false (p ∷ ps) h = omega arith
 
--- the pieces after a mark
-abbrev pub past : ℕ → List ℕ → List (List ℕ)
-past mark [] = []
-past mark (b ∷ bytes) = cut mark bytes
+first_is : (b : ℕ) (ps : List (List ℕ)) → 0 < length ps → onto_first b ps ≡ on_first b ps
+first_is b [] h = absurd (omega arith)
+first_is b (p ∷ ps) h = refl
 
-one_more : (mark b : ℕ) (xs : List ℕ) (t : Bool) → cut mark xs ≡ take (first_at mark xs) xs ∷ past mark (drop (first_at mark xs) xs)
-    → cond t ([] ∷ cut mark xs) (on_first b (cut mark xs))
-    ≡ take (cond t 0 (suc (first_at mark xs))) (b ∷ xs) ∷ past mark (drop (cond t 0 (suc (first_at mark xs))) (b ∷ xs))
-one_more mark b xs true e = refl
-one_more mark b xs false e = ap (on_first b) e
+pub split_cut : (mark : ℕ) (xs : List ℕ) → slice_split (λ b. eqb b mark) xs ≡ cut mark xs
+split_cut mark [] = refl
+split_cut mark (x ∷ xs) =
+    ap (λ ps. cond (eqb x mark) ([] ∷ ps) (onto_first x ps)) (split_cut mark xs)
+    ∙ ap (cond (eqb x mark) ([] ∷ cut mark xs)) (first_is x (cut mark xs) (cut_some mark xs))
 
-cut_first : (mark : ℕ) (xs : List ℕ) → cut mark xs ≡ take (first_at mark xs) xs ∷ past mark (drop (first_at mark xs) xs)
-cut_first mark [] = refl
-cut_first mark (b ∷ xs) = one_more mark b xs (eqb b mark) (cut_first mark xs)
+-- the piece that an iterator over them gives at a turn, and the pieces after it
+pub piece_at : (mark : ℕ) (text : List ℕ) (n : ℕ) (piece : List ℕ) → n < length (slice_split (λ b. eqb b mark) text) → piece ≡ get_or (slice_split (λ b. eqb b mark) text) n piece
+    → drop n (cut mark text) ≡ piece ∷ drop (n + 1) (cut mark text)
+piece_at mark text n piece h e =
+    ap (drop n) (sym (split_cut mark text))
+    ∙ drop_more (slice_split (λ b. eqb b mark) text) n piece h
+    ∙ ap₂ (λ p ps. p ∷ drop (n + 1) ps) (sym e) (split_cut mark text)
 
-past_is : (mark : ℕ) (xs : List ℕ) (end : ℕ) → end ≤ length xs → past mark (drop end xs) ≡ pieces_from mark xs (end + 1)
-past_is mark xs end h = ⊎_elim
-    (λ l. at_drop_more (past mark) xs end 0 l ∙ sym (cond-true _ _ _ (le-leb (end + 1) (length xs) (omega arith))))
-    (λ l. at_drop_all (past mark) xs end l ∙ sym (cond-false _ _ _ (lt-leb (end + 1) (length xs) (omega arith))))
-    (cases_lt end (length xs))
+pub piece_end : (mark : ℕ) (text : List ℕ) (n : ℕ) → n ≡ length (slice_split (λ b. eqb b mark) text) → drop n (cut mark text) ≡ []
+piece_end mark text n e = ap (drop n) (sym (split_cut mark text)) ∙ at_drop_all (λ ps. ps) (slice_split (λ b. eqb b mark) text) n (omega arith)
 
--- the piece that starts at an index and ends before the first mark, and the pieces after it
-pub piece_first : (mark : ℕ) (xs : List ℕ) (start end : ℕ) → start ≤ end → end ≤ length xs → first_at mark (drop start xs) ≡ end - start
-    → pieces_from mark xs start ≡ take (end - start) (drop start xs) ∷ pieces_from mark xs (start + (length (take (end - start) (drop start xs)) + 1))
-piece_first mark xs start end low high e =
-    let n : start + (length (take (end - start) (drop start xs)) + 1) ≡ end + 1 = simp (length-take, length-drop) (omega arith) in
-    let d : drop (end - start) (drop start xs) ≡ drop end xs = let q : start + (end - start) ≡ end = omega arith in drop-drop (end - start) start xs ∙ ap (λ k. drop k xs) q in
-    cond-true _ _ _ (le-leb start (length xs) (omega arith))
-    ∙ cut_first mark (drop start xs)
-    ∙ ap (λ k. take k (drop start xs) ∷ past mark (drop k (drop start xs))) e
-    ∙ ap (λ ys. take (end - start) (drop start xs) ∷ ys) (ap (past mark) d ∙ past_is mark xs end high ∙ ap (pieces_from mark xs) (sym n))
-
--- a byte that is no mark
-pub first_step : (mark : ℕ) (xs : List ℕ) (end : ℕ) → end < length xs → eqb (get_or xs end 0) mark ≡ false → first_at mark (drop end xs) ≡ suc (first_at mark (drop (end + 1) xs))
-first_step mark xs end h e = at_drop_more (first_at mark) xs end 0 h ∙ cond-false _ _ _ e
-
-pub first_here : (mark : ℕ) (xs : List ℕ) (end : ℕ) → end < length xs → eqb (get_or xs end 0) mark ≡ true → first_at mark (drop end xs) ≡ 0
-first_here mark xs end h e = at_drop_more (first_at mark) xs end 0 h ∙ cond-true _ _ _ e
-
-pub first_end : (mark : ℕ) (xs : List ℕ) (end : ℕ) → length xs ≤ end → first_at mark (drop end xs) ≡ 0
-first_end mark xs end h = at_drop_all (first_at mark) xs end h
+-- the same, where each piece has its number
+pub numbered_at : (ps : List (List ℕ)) (n i : ℕ) (piece : List ℕ) → n < length (enumerate_from 0 ps) → ◌≡◌ {A = ℕ × List ℕ} (i, piece) (get_or (enumerate_from 0 ps) n (i, piece))
+    → (i ≡ n) × (n < length ps) × (piece ≡ get_or ps n piece)
+numbered_at ps n i piece h e =
+    let low : n < length ps = omega (arith, length-enumerate_from 0 ps) in
+    let both : ◌≡◌ {A = ℕ × List ℕ} (i, piece) (0 + n, get_or ps n piece) = e ∙ get_or-enumerate_from 0 ps n (i, piece) low in
+    let number : i ≡ 0 + n = ap (λ (p : ℕ × List ℕ). p.0) both in
+    (omega arith, low, ap (λ (p : ℕ × List ℕ). p.1) both)

@@ -1,13 +1,13 @@
 -- The lines that the program prints, byte for byte.
-use Rattle.std.specs.Prelude.{◌≡◌, ℕ, ◌+◌, ◌-◌, Bool, true, false, cond, List, [], ◌∷◌, ◌++◌, length, Ok, Err, codes, decimal, Result, ◌==◌, slice_index}
+use Rattle.std.specs.Prelude.{◌≡◌, ℕ, ◌+◌, ◌-◌, Bool, true, false, cond, List, [], ◌∷◌, ◌++◌, length, Ok, Err, codes, decimal, Result}
 use Rattle.std.specs.List.{flat_map}
-use Rattle.book.specs.Answers.{Answer, granted, refused, Refusal, no, said, and_then}
+use Rattle.book.specs.Answers.{Answer, granted, refused, said, and_then}
 use Rattle.book.specs.Files.{load_says}
-use Rattle.book.specs.Refusals.{enter_refusal, load_refusal}
+use Rattle.book.specs.Refusals.{load_refusal}
+use Rattle.book.specs.Texts.{refusal_text, load_text}
 use Rattle.book.specs.Rules.{Production, rule_in, enter_says, strike_says}
 use Rattle.book.specs.Symbols.{within}
 use Rattle.book.specs.declared.files.LoadError.{LoadError}
-use Rattle.book.specs.declared.files.LoadError.TheVariants as load
 
 -- Rules.
 
@@ -23,31 +23,6 @@ list_text n (p ∷ ps) = decimal n ++ (codes ": " ++ (sides_text p ++ 10 ∷ [])
 -- the sides of the rule of a number; no text where there is none
 abbrev pub sides_at : List Production → ℕ → List ℕ
 sides_at rules k = cond (within 1 (length rules) k) (sides_text (rule_in rules (k - 1))) []
-
--- Refusals, by number and in words.
-
--- each number has its fixed words; 4 names the index of the code
-abbrev pub refusal_text : Refusal → List ℕ
-refusal_text (no n names) =
-    cond (n == 1) (codes "1, the book is full")
-    (cond (n == 2) (codes "2, the left code is no nonterminal")
-    (cond (n == 3) (codes "3, the right side has no symbol or more than 6")
-    (cond (n == 4) (codes "4, right code at index " ++ (decimal (slice_index names 0) ++ codes " is no symbol"))
-    (cond (n == 5) (codes "5, an equal rule is in the book")
-    (cond (n == 6) (codes "6, there is no rule of that number")
-    (codes "20, the buffer is too short"))))))
-
--- an enter that is refused inside a load
-abbrev pub enter_at_text : ℕ → List ℕ → List ℕ
-enter_at_text at refusal = codes "17 at " ++ (decimal at ++ (codes ", the rule is refused (" ++ (refusal ++ codes ")")))
-
--- a refused load has the place in the file too
-abbrev pub load_text : LoadError → List ℕ
-load_text (load.Kind at) = codes "15 at " ++ (decimal at ++ codes ", no record has that kind")
-load_text (load.Ended at) = codes "16 at " ++ (decimal at ++ codes ", the bytes end where a byte is due")
-load_text (load.Enter at cause) = enter_at_text at (refusal_text (enter_refusal cause))
-load_text (load.Count at) = codes "18 at " ++ (decimal at ++ codes ", the count is wrong")
-load_text (load.Trailing at) = codes "19 at " ++ (decimal at ++ codes ", a byte follows the end")
 
 -- Files. `file` is the file's name, and n how many rules the book has after a load.
 

@@ -6,8 +6,8 @@ ghost use Rattle.revise.specs.Lines.{strike_line, enter_line};
 ghost use Rattle.revise.specs.Runs.{changed, change_line, is_passed, line_leaves, line_text, script_leaves, script_text};
 ghost use Rattle.revise.specs.Steps.{change_of};
 
-use crate::lines::{enter_refusal, sides, sides_at, strike_refusal};
-use crate::script::{Step, piece};
+use crate::lines::{Sides, sides_at};
+use crate::script::Step;
 use book::books::Book;
 use std::alloc::{AllocError, Global};
 
@@ -19,10 +19,7 @@ fn strike(heap: Global, book: &mut Book, number: usize) -> Result<String, AllocE
     let sides = sides_at(heap, book, number)?;
     match book.strike(number) {
         Ok(()) => format!(in heap; "strike {number}: {sides}"),
-        Err(error) => {
-            let refusal = strike_refusal(heap, error)?;
-            format!(in heap; "strike {number}: refused {refusal}")
-        }
+        Err(error) => format!(in heap; "strike {number}: refused {error}"),
     }
 }
 
@@ -31,14 +28,11 @@ fn enter(heap: Global, book: &mut Book, left: u8, right: &[u8]) -> Result<String
     ensures rules { OnOk result (rules_of book.new ≡ entered (rules_of book.old) (left ⟶ right.now)) }
     ensures line { IfOk result (λ s. string_bytes s ≡ enter_line (rules_of book.old) (left ⟶ right.now)) }
 {
-    let sides = sides(heap, left, right)?;
+    let sides = Sides { left, right };
     let number = book.rules().len() + 1;
     match book.enter(left, right) {
         Ok(()) => format!(in heap; "enter {number}: {sides}"),
-        Err(error) => {
-            let refusal = enter_refusal(heap, error)?;
-            format!(in heap; "enter {sides}: refused {refusal}")
-        }
+        Err(error) => format!(in heap; "enter {sides}: refused {error}"),
     }
 }
 
@@ -57,10 +51,7 @@ pub fn change(heap: Global, book: &mut Book, step: &Step) -> Result<String, Allo
 fn is_passed(line: &[u8]) -> bool
     ensures { result ≡ is_passed line.now }
 {
-    match line {
-        [] => true,
-        [first, ..] => *first == b'#',
-    }
+    matches!(line, [] | [b'#', ..])
 }
 
 // Carries out a line of a script, and says what came of it.
@@ -86,14 +77,9 @@ pub fn run_script(heap: Global, book: &mut Book, script: &[u8]) -> Result<String
     ensures text { IfOk result (λ s. string_bytes s ≡ script_text (rules_of book.old) script.now) }
 {
     let mut report = String::new(heap);
-    let mut number = 1usize;
-    let mut start = 0;
-    while start <= script.len() {
-        let line = piece(script, start, b'\n');
-        let text = run_line(heap, book, number, line)?;
+    for (i, line) in script.split(|byte| *byte == b'\n').enumerate() {
+        let text = run_line(heap, book, i + 1, line)?;
         report.push_str(text.as_str())?;
-        number += 1;
-        start += line.len() + 1;
     }
     Ok(report)
 }

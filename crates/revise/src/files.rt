@@ -1,23 +1,26 @@
 // Book files loaded and saved, and what is printed of it.
 ghost use Rattle.std.specs.Prelude.{◌≡◌, length, IfOk, vec_items, string_bytes, OnOk};
 ghost use Rattle.std.specs.Option.{option_map};
+ghost use Rattle.book.specs.Answers.{granted, and_then, said};
 ghost use Rattle.book.specs.Files.{save_says, load_says, loaded};
 ghost use Rattle.book.specs.Held.{rules_of};
-ghost use Rattle.revise.specs.Lines.{LoadTold, is_granted, save_line};
+ghost use Rattle.book.specs.Refusals.{load_refusal};
+ghost use Rattle.revise.specs.Lines.{LoadTold, save_line};
 ghost use Rattle.revise.specs.Saves.{most_bytes, saved_file};
 
 use crate::lines::{load_line, save_line};
 use book::books::Book;
+use book::files::LoadError;
 use std::alloc::{AllocError, Global};
 
 // How many bytes a book's file has at the most: 100 rules of 8 bytes, and 2 that close the file.
 const MOST_BYTES: usize = 802;
 
-// What came of a load, in a line and as a flag.
+// What came of a load, and the line that says so.
 #[derive(Drop)]
 pub struct Loaded {
     pub line: String,
-    pub ok: bool,
+    pub outcome: Result<(), LoadError>,
 }
 
 // What came of a save, in a line, and the file if it was made.
@@ -35,15 +38,12 @@ pub(crate) fn load(
     bytes: &[u8],
 ) -> Result<Loaded, AllocError>
     ensures rules { OnOk result (rules_of book.new ≡ loaded (rules_of book.old) bytes.now) }
-    ensures ok { IfOk result (λ t. t.ok ≡ is_granted (load_says bytes.now)) }
+    ensures outcome { IfOk result (λ t. said load_refusal t.outcome ≡ and_then (load_says bytes.now) (λ _. granted tt)) }
     ensures line { IfOk result (λ t. LoadTold name.now bytes.now (length (rules_of book.new)) (string_bytes t.line)) }
 {
     let outcome = book.load(bytes);
     let line = load_line(heap, name, &outcome, book.rules().len())?;
-    Ok(Loaded {
-        line,
-        ok: outcome.is_ok(),
-    })
+    Ok(Loaded { line, outcome })
 }
 
 // The book's file, if it is no longer than the buffer: that of a book that can exist never is.
@@ -55,7 +55,7 @@ pub fn save(heap: Global, book: &Book, name: &str) -> Result<Saved, AllocError>
     let outcome = book.save(&mut buffer);
     let line = save_line(heap, name, &outcome)?;
     let file = match outcome {
-        Ok(size) => Some(Vec::from_slice(heap, &buffer[0..size])?),
+        Ok(size) => Some(Vec::from_slice(heap, &buffer[..size])?),
         Err(_) => None,
     };
     Ok(Saved { line, file })

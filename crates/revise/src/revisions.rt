@@ -30,7 +30,7 @@ pub fn revise(
     let mut book = Book::new();
     let loaded = load(heap, &mut book, old, bytes)?;
     let told = loaded.line;
-    if !loaded.ok {
+    if loaded.outcome.is_err() {
         return Ok(Revision {
             report: format!(in heap; "{told}\n")?,
             file: None,

@@ -1,7 +1,7 @@
 // A script's lines, and the step that a line asks for.
-ghost use Rattle.std.specs.Prelude.{◌≡◌, ◌+◌, ◌≤◌, ◌∷◌, length, IfSome, IfOk, vec_items};
+ghost use Rattle.std.specs.Prelude.{◌≡◌, ◌≤◌, IfSome, IfOk, vec_items};
 ghost use Rattle.std.specs.Option.{option_map};
-ghost use Rattle.revise.specs.Scripts.{cut, pieces_from, number_of, numbers_of, strike_read, enter_read, change_read};
+ghost use Rattle.revise.specs.Scripts.{cut, number_of, numbers_of, strike_read, enter_read, change_read};
 ghost use Rattle.revise.specs.Steps.{change_of};
 
 use std::alloc::{AllocError, Global};
@@ -10,19 +10,6 @@ use std::alloc::{AllocError, Global};
 pub enum Step {
     Strike(usize),
     Enter { left: u8, right: Vec<u8> },
-}
-
-// The piece of a text that starts at an index and ends before the next mark, or at the end.
-pub(crate) fn piece(text: &[u8], start: usize, mark: u8) -> &[u8]
-    requires { start ≤ length text.now }
-    ensures within { start + length result.now ≤ length text.now }
-    ensures first { pieces_from mark text.now start ≡ result.now ∷ pieces_from mark text.now (start + (length result.now + 1)) }
-{
-    let mut end = start;
-    while end < text.len() && text[end] != mark {
-        end += 1;
-    }
-    &text[start..end]
 }
 
 // The number that digits in base ten stand for, if there are some and it is at most `most`.
@@ -52,14 +39,11 @@ fn read_codes(heap: Global, text: &[u8]) -> Result<Option<Vec<u8>>, AllocError>
     ensures { IfOk result (λ o. option_map vec_items o ≡ numbers_of 255 (cut 32 text.now)) }
 {
     let mut read = Vec::new(heap);
-    let mut start = 0;
-    while start <= text.len() {
-        let word = piece(text, start, b' ');
+    for word in text.split(|byte| *byte == b' ') {
         let Some(code) = number(word, 255) else {
             return Ok(None);
         };
         read.push(code as u8)?;
-        start += word.len() + 1;
     }
     Ok(Some(read))
 }
@@ -68,10 +52,7 @@ fn read_codes(heap: Global, text: &[u8]) -> Result<Option<Vec<u8>>, AllocError>
 fn read_strike(text: &[u8]) -> Option<Step>
     ensures { option_map change_of result ≡ strike_read text.now }
 {
-    match number(text, u16::MAX) {
-        Some(number) => Some(Step::Strike(number as usize)),
-        None => None,
-    }
+    number(text, u16::MAX).map(|number| Step::Strike(number as usize))
 }
 
 // The step that what follows the word `enter` asks for.

@@ -54,7 +54,7 @@ fn other_lines_cannot_be_read(rt: HostRuntime) -> Result<(), Fail> {
 fn refused_loads_are_told(rt: HostRuntime) -> Result<(), Fail> {
     let mut book = Book::new();
     let told = load(rt.alloc(), &mut book, "a.dat", &[1, 41, 1, 1, 41])?;
-    assert!(rt; !told.ok);
+    assert!(rt; told.outcome.is_err());
     assert_eq!(rt;
         told.line.as_str(),
         "load a.dat: refused 16 at 3, the bytes end where a byte is due"

@@ -1,4 +1,4 @@
-use Rattle.std.proofs.Common.{◌≡◌, ℕ, ◌-◌, take, replicate, Some, None, vec_items, sym, ap, ◌∙◌, arith}
+use Rattle.std.proofs.Common.{◌≡◌, ℕ, take, replicate, Some, None, vec_items, sym, ap, ◌∙◌}
 use Rattle.std.specs.Option.{option_map}
 use Rattle.book.specs.Answers.{Answer, granted, leaves, said}
 use Rattle.book.specs.Files.{file_of, save_says}
@@ -20,10 +20,9 @@ returns c =
     elim c.match-outcome.branch [
       | in-Ok+in_ok-from_slice-in-Ok w ↦
           (let size = w.in-Ok.size in
-          let same : size - 0 ≡ size = omega arith in
           let grants : granted size ≡ save_says rules most_bytes = ap (said save_refusal) (sym w.in-Ok.is) ∙ answer in
           let front : vec_items w.in_ok-from_slice-in-Ok.field-0 ≡ file_of rules =
-          w.in_ok-from_slice-in-Ok.ensures.items ∙ ap (λ k. take k out) same ∙ ap (take size) c.save-outcome.ensures.buffer ∙ saved_front rules (replicate most_bytes 0) size grants in
+          w.in_ok-from_slice-in-Ok.ensures.items ∙ ap (take size) c.save-outcome.ensures.buffer ∙ saved_front rules (replicate most_bytes 0) size grants in
           ap (option_map vec_items) w.file-is ∙ ap Some front ∙ ap given grants)
       | in-Err w ↦ ap (option_map vec_items) w.file-is ∙ ap given (ap (said save_refusal) (sym w.in-Err.is) ∙ answer)
     ] in

@@ -1,6 +1,8 @@
-use Rattle.std.proofs.Common.{sym, ap, ◌∙◌}
-use Rattle.book.specs.Files.{loaded}
+use Rattle.std.proofs.Common.{◌≡◌, false, ap, ◌∙◌, rules}
+use Rattle.std.specs.Result.{is_err}
+use Rattle.book.specs.Files.{load_says, loaded}
 use Rattle.book.specs.Held.{rules_of}
+use Rattle.revise.proofs.Kept.{outcome_granted}
 use Rattle.revise.proofs.Whole.{new_file, new_loads, reported}
 use Rattle.revise.proofs.revisions.revise.Goals as goal
 
@@ -11,7 +13,8 @@ returns c =
     let rules0 = rules_of c.load.new.book in
     let rules1 = rules_of c.run_script.new.book in
     let first = c.in_ok-loaded.ensures.rules ∙ ap (λ rs. loaded rs old) c.new-book.ensures.rules in
-    let ok = sym c.in_ok-loaded.ensures.ok ∙ c.if-not-loaded.false in
+    let fine : is_err c.in_ok-loaded.loaded.outcome ≡ false = search rules in
+    let ok = outcome_granted _ (load_says old) c.in_ok-loaded.ensures.outcome fine in
     let last = c.in_ok-steps.ensures.rules in
     let saved = c.in_ok-saved.ensures.file in
     record {

@@ -1,10 +1,9 @@
-use Rattle.std.proofs.Common.{◌≡◌, ◌+◌, ◌-◌, ◌++◌, length, vec_items}
+use Rattle.std.proofs.Common.{◌≡◌, ◌++◌, length, drop, vec_items}
 use Rattle.std.specs.Option.{option_map}
-use Rattle.revise.specs.Scripts.{cut, pieces_from, numbers_of}
+use Rattle.revise.specs.Scripts.{cut, numbers_of}
 use Rattle.revise.proofs.script.read_codes.Given as goal
 
-abbrev pub invariant-loop-start : goal.invariant-loop-start
-invariant-loop-start l = option_map (λ ns. vec_items l.read ++ ns) (numbers_of 255 (pieces_from 32 l.text l.start)) ≡ numbers_of 255 (cut 32 l.text)
-
-abbrev pub decreases-loop-start : goal.decreases-loop-start
-decreases-loop-start l = length l.text + 1 - l.start
+abbrev pub invariant-loop-word : goal.invariant-loop-word
+invariant-loop-word l =
+    ((goal.iterator-loop-word).can_next l.word-iterator × (goal.iterator-loop-word).is_finite l.word-iterator)
+    × (option_map (λ ns. vec_items l.read ++ ns) (numbers_of 255 (drop (length l.yielded) (cut 32 l.text))) ≡ numbers_of 255 (cut 32 l.text))
