@@ -1,5 +1,5 @@
 -- Scripts: the lines of a text, and the change to a book that a line asks for.
-use Rattle.std.specs.Prelude.{ℕ, ◌+◌, ◌-◌, ◌*◌, Bool, cond, ◌&&◌, List, [], ◌∷◌, length, drop, Some, None, codes, Option, ◌==◌, nat_le}
+use Rattle.std.specs.Prelude.{ℕ, ◌+◌, ◌-◌, ◌*◌, Bool, cond, ◌&&◌, List, [], ◌∷◌, Some, None, codes, Option, ◌==◌, nat_le}
 use Rattle.std.specs.Option.{option_map}
 
 -- Pieces.
@@ -13,10 +13,6 @@ on_first b (word ∷ words) = (b ∷ word) ∷ words
 abbrev pub cut : ℕ → List ℕ → List (List ℕ)
 cut mark [] = [] ∷ []
 cut mark (b ∷ bytes) = cond (b == mark) ([] ∷ cut mark bytes) (on_first b (cut mark bytes))
-
--- the pieces from an index on, where one begins; there are none past the end
-abbrev pub pieces_from : ℕ → List ℕ → ℕ → List (List ℕ)
-pieces_from mark bytes start = cond (nat_le start (length bytes)) (cut mark (drop start bytes)) []
 
 -- Numbers.
 

@@ -65,8 +65,7 @@ pub(crate) fn listing(heap: Global, book: &Book) -> Result<String, AllocError>
     for (i, rule) in rules.iter().enumerate() {
         let number = i + 1;
         let sides = Sides::of(rule);
-        let line = format!(in heap; "{number}: {sides}\n")?;
-        text.push_str(line.as_str())?;
+        writeln!(text, "{number}: {sides}")?;
     }
     Ok(text)
 }

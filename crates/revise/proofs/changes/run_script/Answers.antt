@@ -7,8 +7,7 @@ use Rattle.book.specs.Held.{rules_of}
 use Rattle.revise.specs.Runs.{line_text, lines_leave, lines_text}
 use Rattle.revise.specs.Scripts.{cut}
 use Rattle.revise.proofs.Pieces.{numbered_at, piece_at, piece_end}
-use Rattle.revise.proofs.Texts.{report_more}
-use Rattle.revise.proofs.Turns.{leave_step, text_step}
+use Rattle.revise.proofs.Turns.{leave_step, text_step, report_more}
 use Rattle.revise.proofs.changes.run_script.Goals as goal
 use Rattle.revise.proofs.changes.run_script.Goals.{In-Some, In-None}
 
