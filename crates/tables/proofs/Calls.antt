@@ -1,13 +1,15 @@
 -- Expansion, one complete rule and one row at a time.
-use Rattle.std.proofs.Common.{◌≡◌, ℕ, zero, suc, ◌+◌, ◌<◌, ◌≤◌, Bool, true, false, not, leb, List, [], ◌∷◌, ◌++◌, map, length, get_or, take, drop, set, sym, refl, ap, ◌∙◌, ap₂, arith}
+use Rattle.std.proofs.Common.{◌≡◌, ℕ, zero, suc, ◌+◌, ◌<◌, ◌≤◌, Bool, true, false, not, ◌||◌, leb, List, [], ◌∷◌, ◌++◌, map, length, get_or, take, drop, set, sym, refl, ap, ◌∙◌, ap₂, subst, arith, inl, inr}
 use lib.ListN.{length-map}
-use Rattle.std.proofs.lemmas.List.{append_assoc, drop_more, take_more_set, drop-set-lt}
-use Rattle.std.proofs.lemmas.Bool.{le-leb}
+use Rattle.std.proofs.lemmas.List.{append_assoc, drop_more, take_more_set, drop-set-lt, get_or_past}
+use Rattle.std.proofs.lemmas.Bool.{le-leb, cases_lt}
+use Rattle.std.specs.List.{list_any, range_with_len}
 use Rattle.book.specs.declared.rules.Rule.{Rule}
+use Rattle.book.specs.Rules.{Production}
 use Rattle.book.specs.Held.{production_of, productions_of}
 use Rattle.grammar.specs.Sets.{Flags, has, symbol_count, codes, any, keep, up_from}
 use Rattle.grammar.specs.Items.{Items}
-use Rattle.grammar.specs.Numbered.{line_at, first}
+use Rattle.grammar.specs.Numbered.{line_at, first, outer}
 use Rattle.grammar.specs.Relations.{Relations}
 use Rattle.grammar.specs.Lookahead.{Look, leads, expands, add_rules, expand_for}
 use Rattle.grammar.specs.Meaning.{InBook}
@@ -27,6 +29,16 @@ places_more F g step ys k e v i is =
     ap₂ (λ t u. t ++ F (k + 1) u) (take_more_set ys k v i) (drop-set-lt (k + 1) ys k v (omega arith))
     ∙ append_assoc (take k ys) (v ∷ []) (F (k + 1) (drop (k + 1) ys))
     ∙ ap (λ w. take k ys ++ w ∷ F (k + 1) (drop (k + 1) ys)) is ∙ ap (λ q. take k ys ++ q) (sym f)
+
+-- whether one of the library's numbers in a row passes a test
+pub any_listed : (p : ℕ → Bool) (k n : ℕ) → list_any p (range_with_len k n) ≡ any p (up_from k n)
+any_listed p k zero = refl
+any_listed p k (suc n) = go (p k) (let e : k + 1 ≡ suc k = omega arith in ap (λ j. list_any p (range_with_len j n)) e ∙ any_listed p (suc k) n)
+  where
+    go : (b : Bool) → list_any p (range_with_len (k + 1) n) ≡ any p (up_from (suc k) n)
+        → (b || list_any p (range_with_len (k + 1) n)) ≡ elim b [ true ↦ true | false ↦ any p (up_from (suc k) n) ]
+    go true e = refl
+    go false e = e
 
 -- what a complete rule calls for
 pub calls_not : (a b : Bool) → b ≡ true → false ≡ elim a [ true ↦ not b | false ↦ false ]
@@ -75,20 +87,31 @@ module _ (rel : Relations) (look : Look) where
   expand_more r rs [] = refl
   expand_more r rs (row ∷ rows) = ap (λ q. row ∷ q) (add_or (λ q. expands rel look q r) (λ q. any (expands rel look q) rs) 1 rows)
 
-  pub expand_start : (rs : List ℕ) (rows : Items) → 0 < length rows → take 1 rows ++ add_rules (λ q. any (expands rel look q) rs) 1 (drop 1 rows) ≡ expand_for rel look rs rows
-  expand_start rs [] h = absurd (omega arith)
-  expand_start rs (row ∷ rows) h = refl
+  pub expand_start : (rs : List ℕ) (rows : Items) → take 1 rows ++ add_rules (λ q. any (expands rel look q) rs) 1 (drop 1 rows) ≡ expand_for rel look rs rows
+  expand_start rs [] = refl
+  expand_start rs (row ∷ rows) = refl
 
 -- a rule of a book has a first symbol, which is a code
 module _ (rs : List Rule) (q : ℕ) (l : 1 ≤ q) (h : q ≤ length rs) where
   in_book : InBook (productions_of rs) q
   in_book = record { low = l; high = omega (arith, length-map rs production_of) }
 
-  pub has_first : 0 < length (line_at (lines_of rs) q).rhs
-  has_first = omega (arith, (size_in (productions_of rs) (rules_bounded rs) q in_book).0)
-
   pub first_code : first (line_at (lines_of rs) q) < symbol_count
   first_code = omega (arith, (first_in (productions_of rs) (rules_bounded rs) q in_book).1)
+
+-- each numbered rule has a first symbol, that of the outer rule too
+pub has_first : (rs : List Rule) (q : ℕ) → 0 < length (line_at (lines_of rs) q).rhs
+has_first rs zero = omega arith
+has_first rs (suc k) = elim (cases_lt k (length rs)) [ inl h ↦ inside h | inr h ↦ past h ]
+  where
+    inside : k < length rs → 0 < length (line_at (lines_of rs) (suc k)).rhs
+    inside h = omega (arith, (size_in (productions_of rs) (rules_bounded rs) (suc k) (in_book rs (suc k) (omega arith) (omega arith))).0)
+
+    past : length rs ≤ k → 0 < length (line_at (lines_of rs) (suc k)).rhs
+    past h =
+        let P : Production → Type 0 = λ p. 0 < length p.rhs in
+        let e : line_at (lines_of rs) (suc k) ≡ outer = get_or_past (productions_of rs) k outer (omega (arith, h, length-map rs production_of)) in
+        subst P (sym e) (omega arith)
 
 -- a lookahead as a set says what the policy says
 pub expand_by_set : (rel : Relations) (rs : List Rule) (look : Look) (r : ℕ) (rows : Items) → rel.lines ≡ lines_of rs → length rows ≤ length rs + 1

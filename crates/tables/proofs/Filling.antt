@@ -1,7 +1,7 @@
 -- The rows of all states, one after another, and what a build answers by them.
 use Rattle.std.proofs.Common.{◌≡◌, ℕ, suc, ◌+◌, ◌<◌, ◌≤◌, true, false, List, [], ◌∷◌, length, get_or, take, drop, Some, None, Option, sym, ap, ◌∙◌, ap₂, arith, length-take}
 use lib.ListN.{length-map}
-use Rattle.std.proofs.lemmas.List.{at_drop_more, at_drop_all, get_or-map}
+use Rattle.std.proofs.lemmas.List.{at_drop_more, at_drop_all, get_or-map, get_or_default}
 use Rattle.std.proofs.lemmas.Bool.{le-leb, lt-leb}
 use Rattle.book.specs.Answers.{granted, refused, no}
 use Rattle.grammar.specs.Items.{Items, close}
@@ -9,20 +9,23 @@ use Rattle.grammar.specs.Lookahead.{Policy}
 use Rattle.grammar.specs.Relations.{Relations}
 use Rattle.grammar.specs.States.{most_states}
 use Rattle.grammar.specs.Build.{Act, row_of, rows_of, conflict_in, conflict_from, without_conflict, within_states}
-use Rattle.tables.specs.Kept.{held_in}
-use Rattle.tables.proofs.Finding.{held_long, held_at}
+use Rattle.tables.specs.declared.kernels.Kernels.{Kernels}
+use Rattle.tables.specs.declared.moving.ItemSet.{ItemSet}
+use Rattle.tables.specs.Kept.{kernels_in}
+use Rattle.tables.proofs.Finding.{found_long, found_at}
 
-module _ (policy : Policy) (rel : Relations) (n m : ℕ) (kernels : List Items) (wide : m ≤ length kernels) where
-  abbrev held : List Items
-  held = held_in n m kernels
+module _ (policy : Policy) (rel : Relations) (n : ℕ) (ks : Kernels) (found : List ItemSet) (is : found ≡ take ks.count ks.sets) where
+  abbrev row : Items → List Act
+  row k = row_of policy rel (kernels_in n ks) (close rel.lines k)
 
-  pub rows_long : length (rows_of policy rel (held_in n m kernels)) ≡ m
-  rows_long = length-map held (λ k. row_of policy rel held (close rel.lines k)) ∙ held_long n m kernels wide
+  pub rows_long : length (rows_of policy rel (kernels_in n ks)) ≡ length found
+  rows_long = length-map (kernels_in n ks) row ∙ found_long n ks found is
 
-  pub rows_at : (s : ℕ) → s < m → get_or (rows_of policy rel (held_in n m kernels)) s [] ≡ row_of policy rel (held_in n m kernels) (close rel.lines (take n (get_or kernels s [])))
+  pub rows_at : (s : ℕ) → s < length found
+      → get_or (rows_of policy rel (kernels_in n ks)) s [] ≡ row_of policy rel (kernels_in n ks) (close rel.lines (take n (get_or found s (record { rows = [] })).rows))
   rows_at s h =
-      let row : Items → List Act = λ k. row_of policy rel held (close rel.lines k) in
-      get_or-map row held s [] [] (omega (arith, held_long n m kernels wide)) ∙ ap row (held_at n m s kernels h wide)
+      let at : get_or found s (record { rows = [] }) ≡ get_or found s (get_or found s (record { rows = [] })) = get_or_default found s (record { rows = [] }) (get_or found s (record { rows = [] })) h in
+      get_or-map row (kernels_in n ks) s [] [] (omega (arith, found_long n ks found is)) ∙ ap row (found_at n ks found is s (get_or found s (record { rows = [] })) h at)
 
 -- The conflict of the lowest state.
 
@@ -52,8 +55,8 @@ module _ (all : List (List Act)) where
 
 -- How many states.
 
-pub held_most : (n m : ℕ) (rows : List Items) → length (held_in n m rows) ≤ m
-held_most n m rows = simp (length-map, length-take) (omega arith)
+pub kernels_few : (n : ℕ) (ks : Kernels) → length (kernels_in n ks) ≤ most_states
+kernels_few n ks = simp (length-map, length-take) (omega (arith, ks.few))
 
 pub within_few : (policy : Policy) (rel : Relations) (ks : List Items) → length ks ≤ most_states → without_conflict (rows_of policy rel ks) ≡ within_states policy rel ks
 within_few policy rel ks h = sym (ap (λ b. elim b [ true ↦ without_conflict (rows_of policy rel ks) | false ↦ refused (no 8 []) ]) (le-leb (length ks) most_states h))

@@ -1,5 +1,5 @@
 -- Kernels that are found, turn by turn.
-use Rattle.std.proofs.Common.{◌≡◌, ℕ, zero, suc, ◌+◌, ◌-◌, ◌<◌, ◌≤◌, Bool, true, false, ltb, List, [], ◌∷◌, ◌++◌, length, get_or, take, refl, ap, ◌∙◌, arith, length-take}
+use Rattle.std.proofs.Common.{◌≡◌, ℕ, zero, suc, ◌+◌, ◌-◌, ◌<◌, ◌≤◌, Bool, true, false, ltb, List, [], ◌∷◌, ◌++◌, length, get_or, take, Ok, Err, Result, is_err, map, sym, refl, ap, ◌∙◌, arith, length-take}
 use lib.ListN.{length-map}
 use Rattle.std.proofs.lemmas.List.{length_push, get_or-map, get_or-take}
 use Rattle.std.proofs.lemmas.Bool.{lt-ltb, le-ltb}
@@ -10,13 +10,31 @@ use Rattle.grammar.specs.Lookahead.{Policy}
 use Rattle.grammar.specs.Relations.{Relations}
 use Rattle.grammar.specs.States.{items_of, number_of, with_kernel, with_next, visit, explore, most_states}
 use Rattle.grammar.proofs.Turns.{up_more}
-use Rattle.tables.specs.Kept.{held_in}
+use Rattle.tables.specs.declared.kernels.Kernels.{Kernels}
+use Rattle.tables.specs.declared.kernels.Full.{Full}
+use Rattle.tables.specs.declared.moving.ItemSet.{ItemSet}
+use Rattle.tables.specs.Kept.{kernels_in, Found}
 
-pub held_long : (n m : ℕ) (rows : List Items) → m ≤ length rows → length (held_in n m rows) ≡ m
-held_long n m rows h = simp (length-map, length-take) (omega arith)
+module _ (n : ℕ) (ks : Kernels) (wide : ks.count ≤ length ks.sets) where
+  pub kernels_long : length (kernels_in n ks) ≡ ks.count
+  kernels_long = simp (length-map, length-take) (omega arith)
 
-pub held_at : (n m i : ℕ) (rows : List Items) → i < m → m ≤ length rows → get_or (held_in n m rows) i [] ≡ take n (get_or rows i [])
-held_at n m i rows h l = get_or-map (take n) (take m rows) i [] [] (simp length-take (omega arith)) ∙ ap (take n) (get_or-take m rows i [] h)
+  pub kernels_at : (i : ℕ) (d : ItemSet) → i < ks.count → get_or (kernels_in n ks) i [] ≡ take n (get_or ks.sets i d).rows
+  kernels_at i d h =
+      get_or-map (λ s. take n s.rows) (take ks.count ks.sets) i d [] (simp length-take (omega arith)) ∙ ap (λ (s : ItemSet). take n s.rows) (get_or-take ks.count ks.sets i d h)
+
+-- a kernel that is looked up in the code's list
+module _ (n : ℕ) (ks : Kernels) (found : List ItemSet) (is : found ≡ take ks.count ks.sets) where
+  pub found_long : length (kernels_in n ks) ≡ length found
+  found_long = length-map (take ks.count ks.sets) (λ s. take n s.rows) ∙ ap length (sym is)
+
+  pub found_few : length found ≤ ks.count
+  found_few = rw is (simp length-take (omega arith))
+
+  pub found_at : (i : ℕ) (kernel : ItemSet) → i < length found → kernel ≡ get_or found i kernel → get_or (kernels_in n ks) i [] ≡ take n kernel.rows
+  found_at i kernel h at =
+      let f : ItemSet → Items = λ s. take n s.rows in
+      ap (λ q. get_or (map f q) i []) (sym is) ∙ get_or-map f found i kernel [] h ∙ ap f (sym at)
 
 -- One kernel.
 
@@ -32,6 +50,11 @@ kernel_grows ks k = go (ltb (number_of ks k) (length ks))
     go : (b : Bool) → length ks ≤ length {A = Items} (elim b [ true ↦ ks | false ↦ ks ++ k ∷ [] ])
     go true = omega arith
     go false = omega (arith, length_push ks k)
+
+-- a refusal, where there are at least as many kernels as were too many
+pub too_many : (n : ℕ) (all fewer : List Items) (ks : Kernels) (r : Result (Unit {0}) Full) → is_err r ≡ true → most_states < length fewer → length fewer ≤ length all → Found n all ks r
+too_many n all fewer ks (Ok _) is many grows = cc
+too_many n all fewer ks (Err _) is many grows = omega arith
 
 -- The kernels over all symbols.
 

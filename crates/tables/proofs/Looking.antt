@@ -1,12 +1,9 @@
 -- Looking an action up: past the states or the symbols there is none.
-use Rattle.std.proofs.Common.{◌≡◌, ℕ, ◌<◌, ◌≤◌, ltb, List, [], map, length, get_or, sym, refl, ap, ◌∙◌, arith}
-use lib.ListN.{length-map}
-use Rattle.std.proofs.lemmas.List.{get_or_past, get_or-map}
+use Rattle.std.proofs.Common.{◌≡◌, ℕ, ◌≤◌, ltb, List, [], length, get_or, sym, refl, ap}
+use Rattle.std.proofs.lemmas.List.{get_or_past}
 use Rattle.std.proofs.lemmas.Bool.{cond_both, ltb-false}
 use Rattle.grammar.specs.Build.{Act, nothing}
 use Rattle.grammar.specs.Sets.{symbol_count}
-use Rattle.tables.specs.declared.actions.Row.{Row}
-use Rattle.tables.specs.Acts.{acts_of}
 use Rattle.tables.specs.Looked.{act_in}
 
 -- the place of a row that has nothing past the last symbol

@@ -1,33 +1,35 @@
 -- Comparing item sets, and numbering kernels.
-use Rattle.std.proofs.Common.{◌≡◌, ℕ, zero, suc, ◌+◌, ◌<◌, ◌≤◌, Bool, true, false, List, [], ◌∷◌, map, length, get_or, take, drop, refl, ap, ◌∙◌, arith, length-take}
+use Rattle.std.proofs.Common.{◌≡◌, ℕ, zero, suc, ◌+◌, ◌<◌, ◌≤◌, ltb, Bool, true, false, cond, ◌&&◌, List, [], ◌∷◌, map, length, get_or, take, Some, None, Option, unwrap_or, refl, sym, ap, ◌∙◌, ap₂, arith}
+use lib.Pointwise.{pointwise}
 use mathlib.Core.Bool.{beq}
-use Rattle.std.proofs.lemmas.List.{at_drop_more, get_or-take}
+use Rattle.std.proofs.lemmas.Bool.{ltb-false}
+use Rattle.std.proofs.lemmas.List.Recursion.{is_position_or_len}
+use Rattle.std.specs.List.{position_or_len}
 use Rattle.grammar.specs.Sets.{Flags}
 use Rattle.grammar.specs.Items.{Items}
 use Rattle.grammar.specs.States.{same_flags, same_items, number_of}
-use Rattle.grammar.proofs.Turns.{at_drops_more}
+use Rattle.tables.specs.declared.moving.ItemSet.{ItemSet}
 
--- one flag more
-pub same_flags_step : (a : Bool) (more : Flags) (b : Bool) (bs : Flags) → same_flags (a ∷ more) (b ∷ bs) ≡ elim (beq a b) [ true ↦ same_flags more bs | false ↦ false ]
-same_flags_step true more true bs = refl
-same_flags_step true more false bs = refl
-same_flags_step false more true bs = refl
-same_flags_step false more false bs = refl
+-- the library's equality of rows and of item sets is this crate's
 
--- a test of two lists side by side, element by element: at an element that differs, and at one that does not
-module _ {X : Type 0} (same : List X → List X → Bool) (one : X → X → Bool)
-    (step : (x : X) (xs : List X) (y : X) (ys : List X) → same (x ∷ xs) (y ∷ ys) ≡ elim (one x y) [ true ↦ same xs ys | false ↦ false ])
-    (xs ys : List X) (i : ℕ) (d : X) (h : i < length xs) (k : i < length ys) where
-  turn : (t : Bool) → one (get_or xs i d) (get_or ys i d) ≡ t → same (drop i xs) (drop i ys) ≡ elim t [ true ↦ same (drop (i + 1) xs) (drop (i + 1) ys) | false ↦ false ]
-  turn t e =
-      at_drops_more same xs ys i d d h k ∙ step (get_or xs i d) (drop (i + 1) xs) (get_or ys i d) (drop (i + 1) ys)
-      ∙ ap (λ b. elim b [ true ↦ same (drop (i + 1) xs) (drop (i + 1) ys) | false ↦ false ]) e
+pub flags_alike : (a b : Flags) → pointwise beq a b ≡ same_flags a b
+flags_alike [] [] = refl
+flags_alike [] (y ∷ b) = refl
+flags_alike (x ∷ a) [] = refl
+flags_alike (true ∷ a) (true ∷ b) = flags_alike a b
+flags_alike (true ∷ a) (false ∷ b) = refl
+flags_alike (false ∷ a) (true ∷ b) = refl
+flags_alike (false ∷ a) (false ∷ b) = flags_alike a b
 
-  pub differ_here : one (get_or xs i d) (get_or ys i d) ≡ false → same (drop i xs) (drop i ys) ≡ false
-  differ_here e = turn false e
+both : (p q t u : Bool) → p ≡ t → q ≡ u → (p && q) ≡ elim t [ true ↦ u | false ↦ false ]
+both true q t u e f = ap₂ (λ v w. elim v [ true ↦ w | false ↦ false ]) e f
+both false q t u e f = ap (λ v. elim v [ true ↦ u | false ↦ false ]) e
 
-  pub same_here : one (get_or xs i d) (get_or ys i d) ≡ true → same (drop i xs) (drop i ys) ≡ same (drop (i + 1) xs) (drop (i + 1) ys)
-  same_here e = turn true e
+pub items_alike : (a b : Items) → pointwise (pointwise beq) a b ≡ same_items a b
+items_alike [] [] = refl
+items_alike [] (y ∷ b) = refl
+items_alike (x ∷ a) [] = refl
+items_alike (x ∷ a) (y ∷ b) = both (pointwise beq x y) (pointwise (pointwise beq) a b) (same_flags x y) (same_items a b) (flags_alike x y) (items_alike a b)
 
 -- sets that differ in some row
 pub differ_at : (a b : Items) (k : ℕ) → k < length a → k < length b → same_flags (get_or a k []) (get_or b k []) ≡ false → same_items a b ≡ false
@@ -37,11 +39,37 @@ differ_at (x ∷ a) (y ∷ b) zero h l e = ap (λ t. elim t [ true ↦ same_item
 differ_at (x ∷ a) (y ∷ b) (suc k) h l e =
     elim (same_flags x y) as (λ t. elim t [ true ↦ same_items a b | false ↦ false ] ≡ false) [ true ↦ differ_at a b k (omega arith) (omega arith) e | false ↦ refl ]
 
--- one kernel more
-pub number_step : (n m i : ℕ) (ks : List Items) (f : Items) (t : Bool) → i < m → m ≤ length ks → same_items (take n (get_or ks i [])) f ≡ t
-    → number_of (map (take n) (drop i (take m ks))) f ≡ elim t [ true ↦ 0 | false ↦ suc (number_of (map (take n) (drop (i + 1) (take m ks))) f) ]
-number_step n m i ks f t h l e =
-    let rest = number_of (map (take n) (drop (i + 1) (take m ks))) f in
-    let step : number_of (map (take n) (drop i (take m ks))) f ≡ elim (same_items (take n (get_or (take m ks) i [])) f) [ true ↦ 0 | false ↦ suc rest ] =
-    at_drop_more (λ q. number_of (map (take n) q) f) (take m ks) i [] (simp length-take (omega arith)) in
-    step ∙ ap (λ b. elim b [ true ↦ 0 | false ↦ suc rest ]) (ap (λ q. same_items (take n q) f) (get_or-take m ks i [] h) ∙ e)
+-- the number of a kernel is its position among the code's
+module _ (n : ℕ) (f : Items) where
+  numbered : List ItemSet → ℕ
+  numbered all = number_of (map (λ s. take n s.rows) all) f
+
+  least : (all : List ItemSet) → numbered all ≤ length all
+  unfolding numbered
+  least [] = omega arith
+  least (s ∷ all) = go (same_items (take n s.rows) f) (least all)
+    where
+      go : (b : Bool) → numbered all ≤ length all → elim b [ true ↦ 0 | false ↦ suc (numbered all) ] ≤ suc (length all)
+      go true h = omega arith
+      go false h = omega arith
+
+  listed : (all : List ItemSet) → numbered all ≡ position_or_len (λ s. same_items (take n s.rows) f) all
+  unfolding numbered
+  listed all = is_position_or_len numbered (λ s. same_items (take n s.rows) f) refl (λ s rest. one (same_items (take n s.rows) f) (numbered rest)) all
+    where
+      one : (b : Bool) (k : ℕ) → elim b [ true ↦ 0 | false ↦ suc k ] ≡ cond b 0 (1 + k)
+      one true k = refl
+      one false k = omega arith
+
+  placed : (m p : ℕ) (b : Bool) → ltb p m ≡ b → p ≤ m → unwrap_or (cond b (Some p) None) m ≡ p
+  placed m p true e h = refl
+  placed m p false e h = let l = ltb-false p m e in omega arith
+
+  pub number_is : (all : List ItemSet) (o : Option ℕ)
+      → o ≡ cond (ltb (position_or_len (λ s. same_items (take n s.rows) f) all) (length all)) (Some (position_or_len (λ s. same_items (take n s.rows) f) all)) None
+      → unwrap_or o (length all) ≡ number_of (map (λ s. take n s.rows) all) f
+  unfolding numbered
+  number_is all o e =
+      let p = position_or_len (λ s. same_items (take n s.rows) f) all in
+      let is : p ≡ number_of (map (λ s. take n s.rows) all) f = sym (listed all) in
+      ap (λ q. unwrap_or q (length all)) e ∙ placed (length all) p (ltb p (length all)) refl (omega (arith, is, least all)) ∙ is

@@ -1,5 +1,5 @@
 -- What the code's rules and kernels stand for.
-use Rattle.std.specs.Prelude.{◌≡◌, ℕ, ◌+◌, ◌<◌, ◌≤◌, Bool, true, false, not, List, [], map, length, take, Some, None, Option, slice_index_or}
+use Rattle.std.specs.Prelude.{◌≡◌, ℕ, ◌+◌, ◌<◌, Bool, true, false, not, List, [], map, length, take, Ok, Err, Result, slice_index_or}
 use Rattle.book.specs.declared.rules.Rule.{Rule}
 use Rattle.book.specs.Held.{productions_of}
 use Rattle.book.specs.Rules.{Production}
@@ -8,25 +8,37 @@ use Rattle.grammar.specs.Items.{Items}
 use Rattle.grammar.specs.Sets.{Flags, has}
 use Rattle.grammar.specs.Relations.{Relations}
 use Rattle.grammar.specs.Lookahead.{leads}
+use Rattle.grammar.specs.Relating.{related_by}
 use Rattle.grammar.specs.States.{most_states}
 use Rattle.grammar.specs.declared.relations.RelationSets.{RelationSets}
+use Rattle.tables.specs.declared.kernels.Kernels.{Kernels}
+use Rattle.tables.specs.declared.kernels.Full.{Full}
+use Rattle.tables.specs.declared.builds.Build.{Build}
+
+-- how many numbered rules there may be
+abbrev pub most_numbered : ℕ
+most_numbered = 101
 
 -- the rules with the outer rule in front
 abbrev pub lines_of : List Rule → List Production
 lines_of rs = numbered (productions_of rs)
 
+-- what a build's relation sets stand for
+abbrev pub relations_in : {L : Type 0} → Build L → Relations
+relations_in b = related_by b.sets.now (productions_of b.rules.now)
+
 -- the rows of an item set that belong to rules
 abbrev pub rows_for : List Rule → Items → Items
 rows_for rs rows = take (length rs + 1) rows
 
--- the first m kernels that the code holds, each of n rows
-abbrev pub held_in : ℕ → ℕ → List Items → List Items
-held_in n m rows = map (take n) (take m rows)
+-- the kernels that the code found, each of n rows
+abbrev pub kernels_in : ℕ → Kernels → List Items
+kernels_in n ks = map (λ s. take n s.rows) (take ks.count ks.sets)
 
--- what finding more kernels leaves: how many there are then, or word that they are too many
-abbrev pub Found : ℕ → List Items → List Items → Option ℕ → Type 0
-Found n all rows (Some m) = (held_in n m rows ≡ all) × (m ≤ most_states)
-Found n all rows None = most_states < length all
+-- what finding more kernels leaves: all of them, or word that they are too many
+abbrev pub Found : ℕ → List Items → Kernels → Result (Unit {0}) Full → Type 0
+Found n all ks (Ok _) = kernels_in n ks ≡ all
+Found n all ks (Err _) = most_states < length all
 
 -- whether the nonterminal f is a leftmost follower of a and has b as a left corner
 abbrev pub leads_by : RelationSets → ℕ → ℕ → ℕ → Bool

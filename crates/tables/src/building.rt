@@ -1,20 +1,18 @@
 // The tables of a book: the action of every state at every symbol.
-ghost use Rattle.std.specs.Prelude.{◌≡◌, ◌+◌, ◌<◌, ◌≤◌, [], ◌∷◌, ◌++◌, map, length, take};
+ghost use Rattle.std.specs.Prelude.{◌≡◌, ◌+◌, ◌<◌, [], ◌∷◌, ◌++◌, map, length, take};
 ghost use Rattle.book.specs.Answers.{said_of, said};
 ghost use Rattle.book.specs.Held.{productions_of};
-ghost use Rattle.book.specs.Symbols.{most_rules};
-ghost use Rattle.grammar.specs.Build.{rows_of, without_conflict, built_by, build_says};
-ghost use Rattle.grammar.specs.Relating.{related_by};
+ghost use Rattle.grammar.specs.Build.{rows_of, without_conflict, built_by};
 ghost use Rattle.grammar.specs.States.{most_states};
 ghost use Rattle.tables.specs.Acts.{act_of, acts_of};
 ghost use Rattle.tables.specs.Built.{table_of, build_refusal, fill_says, row_refusal, row_says, row_in};
-ghost use Rattle.tables.specs.Kept.{held_in};
+ghost use Rattle.tables.specs.Kept.{relations_in, kernels_in};
 ghost use Rattle.tables.specs.Looked.{act_in};
 
-use crate::actions::{Action, Row, row_of};
+use crate::actions::{Action, Row};
+use crate::builds::Build;
 use crate::encoding::encode;
-use crate::kernels::{Kernels, MOST_STATES};
-use crate::states::{explore, start_kernel};
+use crate::kernels::{Full, Kernels, MOST_STATES};
 use book::books::MOST_RULES;
 use book::rules::Rule;
 use grammar::lookaheads::Lookahead;
@@ -69,56 +67,32 @@ impl Tables {
         self.rows[state] = row;
     }
 
-    // The rows of the states with these m kernels, as far as none has a conflict.
+    // The rows of the states with these kernels, as far as none has a conflict.
     fn fill_rows<L: Lookahead>(
         &mut self,
-        look: &L,
-        sets: &RelationSets,
-        rules: &[Rule],
+        build: &Build<L>,
         kernels: &Kernels,
-        m: usize,
     ) -> Result<(), BuildError>
-        requires few { length rules.now ≤ most_rules }
-        requires most { m ≤ most_states }
-        ensures { said_of (λ _. table_of self.new) build_refusal result ≡ without_conflict (rows_of (L.Lookahead.policy look.now) (related_by sets.now (productions_of rules.now)) (held_in (length rules.now + 1) m kernels.now)) }
+        ensures { said_of (λ _. table_of self.new) build_refusal result ≡ without_conflict (rows_of (L.Lookahead.policy build.now.look.now) (relations_in build.now) (kernels_in (length build.now.rules.now + 1) kernels.now)) }
     {
-        for s in 0..m {
-            match row_of(look, sets, rules, kernels, m, s) {
+        for (s, kernel) in kernels.found().iter().enumerate() {
+            match build.row_of(kernels, kernel) {
                 Ok(row) => self.put(s, row),
                 Err(x) => return Err(BuildError::Conflict(s as u8, x)),
             }
         }
-        self.size.states = m;
+        self.size.states = kernels.found().len();
         Ok(())
     }
 
     // The tables of rules of which these are the relations.
-    fn construct<L: Lookahead>(
-        &mut self,
-        look: &L,
-        sets: &RelationSets,
-        rules: &[Rule],
-    ) -> Result<(), BuildError>
-        requires few { length rules.now ≤ most_rules }
-        ensures { said_of (λ _. table_of self.new) build_refusal result ≡ built_by (L.Lookahead.policy look.now) (related_by sets.now (productions_of rules.now)) }
+    fn construct<L: Lookahead>(&mut self, build: &Build<L>) -> Result<(), BuildError>
+        ensures { said_of (λ _. table_of self.new) build_refusal result ≡ built_by (L.Lookahead.policy build.now.look.now) (relations_in build.now) }
     {
-        let mut kernels = [start_kernel(rules); MOST_STATES];
-        match explore(look, sets, rules, &mut kernels) {
-            Some(count) => self.fill_rows(look, sets, rules, &kernels, count),
-            None => Err(BuildError::States),
+        match build.explore() {
+            Ok(kernels) => self.fill_rows(build, &kernels),
+            Err(Full) => Err(BuildError::States),
         }
-    }
-
-    // The tables of no more rules than a book can have.
-    fn fill_few<L: Lookahead>(&mut self, rules: &[Rule], look: &L) -> Result<(), BuildError>
-        requires few { length rules.now ≤ most_rules }
-        ensures { said_of (λ _. table_of self.new) build_refusal result ≡ build_says (L.Lookahead.policy look.now) (productions_of rules.now) }
-    {
-        if let Some(x) = useless(rules) {
-            return Err(BuildError::Useless(x));
-        }
-        let sets = RelationSets::of(rules);
-        self.construct(look, &sets, rules)
     }
 
     // The tables of a book with these rules, by a lookahead policy. What they are after a refusal is free.
@@ -128,7 +102,15 @@ impl Tables {
         if rules.len() > MOST_RULES {
             return Err(BuildError::Rules);
         }
-        self.fill_few(rules, look)
+        if let Some(x) = useless(rules) {
+            return Err(BuildError::Useless(x));
+        }
+        let sets = RelationSets::of(rules);
+        self.construct(&Build {
+            look,
+            sets: &sets,
+            rules,
+        })
     }
 
     // The rows of the states, in order.

@@ -14,10 +14,9 @@ fn open(set: &SymbolSet, rules: &[Rule], items: &mut [DotRow]) -> bool
     ensures still { result ≡ false → items.new ≡ items.old }
 {
     let mut changed = false;
-    let n = items.len();
-    for k in 0..n {
-        if contains(set, left_of(rules, k)) & !items[k][0] {
-            items[k][0] = true;
+    for (k, row) in items.iter_mut().enumerate() {
+        if contains(set, left_of(rules, k)) & !row[0] {
+            row[0] = true;
             changed = true;
         }
     }

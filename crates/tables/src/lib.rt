@@ -3,6 +3,7 @@
 
 pub mod actions;
 pub mod building;
+mod builds;
 pub mod closing;
 pub mod encoding;
 pub mod expanding;

@@ -2,16 +2,20 @@
 ghost use Rattle.std.specs.Prelude.{◌≡◌, ◌+◌, ◌≤◌, false, ◌∷◌, length, take};
 ghost use Rattle.book.specs.Symbols.{longest_right};
 ghost use Rattle.grammar.specs.Items.{before, onward};
-ghost use Rattle.tables.specs.Kept.{lines_of};
+ghost use Rattle.tables.specs.Kept.{lines_of, rows_for};
 
-use book::rules::{LONGEST_RIGHT, Rule};
+use crate::builds::Build;
+use book::rules::LONGEST_RIGHT;
 use grammar::items::{DOTS, DotRow, right_of};
 
 // How many numbered rules there are at the most.
 pub const MOST_NUMBERED: usize = 101;
 
 // A row for each numbered rule; rows past the last rule have no meaning.
-pub type ItemSet = [DotRow; MOST_NUMBERED];
+#[derive(Clone, Copy)]
+pub struct ItemSet {
+    pub(crate) rows: [DotRow; MOST_NUMBERED],
+}
 
 // The dots of one rule that stand before the symbol, moved over it.
 fn move_row(right: &[u8], row: &DotRow, symbol: u8) -> DotRow
@@ -19,22 +23,29 @@ fn move_row(right: &[u8], row: &DotRow, symbol: u8) -> DotRow
 {
     let mut moved = [false; DOTS];
     let n = right.len().min(LONGEST_RIGHT);
-    for d in 0..n {
-        moved[d + 1] = row[d] & (right[d] == symbol);
+    for (d, word) in right[..n].iter().enumerate() {
+        moved[d + 1] = row[d] & (*word == symbol);
     }
     moved
 }
 
-// The kernel over a symbol.
-pub(crate) fn onward(rules: &[Rule], items: &[DotRow], symbol: u8) -> ItemSet
-    requires rows { length items.now ≡ length rules.now + 1 }
-    requires room { length items.now ≤ 101 }
-    ensures { take (length items.now) result ≡ onward symbol (lines_of rules.now) items.now }
-{
-    let mut next = [[false; DOTS]; MOST_NUMBERED];
-    let n = items.len();
-    for k in 0..n {
-        next[k] = move_row(right_of(rules, k), &items[k], symbol);
+impl<L> Build<'_, L> {
+    // The rows that belong to rules.
+    pub(crate) fn rows<'b>(&self, items: &'b ItemSet) -> &'b [DotRow]
+        ensures value { result.now ≡ rows_for self.now.rules.now items.now.rows }
+        ensures len { length result.now ≡ length self.now.rules.now + 1 }
+    {
+        &items.rows[..=self.rules.len()]
     }
-    next
+
+    // The kernel over a symbol.
+    pub(crate) fn onward(&self, items: &ItemSet, symbol: u8) -> ItemSet
+        ensures { rows_for self.now.rules.now result.rows ≡ onward symbol (lines_of self.now.rules.now) (rows_for self.now.rules.now items.now.rows) }
+    {
+        let mut rows = [[false; DOTS]; MOST_NUMBERED];
+        for (k, row) in self.rows(items).iter().enumerate() {
+            rows[k] = move_row(right_of(self.rules, k), row, symbol);
+        }
+        ItemSet { rows }
+    }
 }

@@ -13,7 +13,7 @@ use Rattle.grammar.proofs.Turns.{beside_more}
 use Rattle.tables.specs.Kept.{lines_of}
 use Rattle.tables.proofs.Sides.{put_in, left_out}
 use Rattle.tables.proofs.closing.open.Goals as goal
-use Rattle.tables.proofs.closing.open.Goals.{then-contains-items, else-contains-items}
+use Rattle.tables.proofs.closing.open.Goals.{then-contains-row, else-contains-row}
 
 pub loop-k-preserved : goal.loop-k-preserved
 loop-k-preserved c =
@@ -27,16 +27,16 @@ loop-k-preserved c =
     let step : (v : Flags) → v ≡ insert_if c.contains.result row 0 → left (set rows k v) ≡ opened s lines c.args.items.now =
     λ v e. beside_more (opened s) (λ (p : Production) r. insert_if (has s p.lhs) r 0) (λ l ls r rs. refl) lines rows k outer [] v
     (omega (arith, c.requires.rows, length-map c.args.rules.now production_of)) (omega (arith, c.requires.rows)) (e ∙ ap (λ b. insert_if b row 0) wanted)
-    ∙ c.loop-k.invariant.0 in
-    elim c.if-contains-items.branch [
-      | then-contains-items w ↦ (
-        ap left w.items-is ∙ step (insert row 0) (put_in c.contains.result row w.if-contains-items.true),
-        λ e. absurd (both_ways c.if-contains-items.changed e w.changed-is),
-      )
-      | else-contains-items w ↦ (
-        ap left (w.items-is ∙ sym (set-get_or rows k [])) ∙ step row (left_out c.contains.result row w.if-contains-items.false),
-        λ e. w.items-is ∙ c.loop-k.invariant.1 (sym w.changed-is ∙ e),
-      )
+    ∙ c.loop-k.invariant.after in
+    elim c.if-contains-row.branch [
+      | then-contains-row w ↦ record {
+        after = ap left w.items-is ∙ step (insert row 0) (put_in c.contains.result row w.if-contains-row.true);
+        still = λ e. absurd (both_ways c.if-contains-row.changed e w.changed-is);
+      }
+      | else-contains-row w ↦ record {
+        after = ap left w.items-is ∙ step row (left_out c.contains.result row w.if-contains-row.false);
+        still = λ e. w.items-is ∙ set-get_or rows k [] ∙ c.loop-k.invariant.still (sym w.changed-is ∙ e);
+      }
     ]
 
 pub returns : goal.returns
@@ -47,6 +47,6 @@ returns c =
     let s = c.args.set.now in
     let end : drop k lines ≡ [] = drop_all k lines (omega (arith, c.requires.rows, length-map c.args.rules.now production_of)) in
     record {
-      after = sym (ap (λ q. take k rows ++ opened s q (drop k rows)) end ∙ take-append-drop k rows) ∙ c.loop-k.invariant.0;
-      still = c.loop-k.invariant.1;
+      after = sym (ap (λ q. take k rows ++ opened s q (drop k rows)) end ∙ take-append-drop k rows) ∙ c.loop-k.invariant.after;
+      still = c.loop-k.invariant.still;
     }

@@ -1,8 +1,6 @@
-use Rattle.std.proofs.Common.{◌≡◌, ◌<◌, ◌≤◌, List, [], map, length, get_or, sym, ap, ◌∙◌, arith, rules}
+use Rattle.std.proofs.Common.{◌≡◌, ◌<◌, ◌≤◌, [], map, length, get_or, sym, ap, ◌∙◌, arith, rules}
 use lib.ListN.{length-map}
 use Rattle.std.proofs.lemmas.List.{get_or-map}
-use Rattle.grammar.specs.Build.{Act}
-use Rattle.grammar.specs.Sets.{symbol_count}
 use Rattle.tables.specs.Acts.{act_of, acts_of}
 use Rattle.tables.specs.Looked.{act_in}
 use Rattle.tables.proofs.Looking.{look_on, look_past}
