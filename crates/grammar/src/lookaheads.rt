@@ -1,6 +1,5 @@
 // Lookahead policies: for a complete rule of a closed item set, the symbols on which it may be reduced by.
 ghost use Rattle.std.specs.Prelude.{◌≡◌, map};
-ghost use Rattle.book.specs.Held.{productions_of};
 ghost use Rattle.grammar.specs.Laws.{Lawful};
 ghost use Rattle.grammar.specs.Lookahead.{Policy, slr, leftmost_follow, lookahead_of, meets, slr_conflicting, slr_if_adequate};
 ghost use Rattle.grammar.specs.Relating.{related_by};
@@ -10,21 +9,14 @@ ghost use Rattle.grammar.specs.Policies.{slr_lawful, leftmost_follow_lawful, slr
 use crate::items::{DotRow, is_complete, left_of, reads};
 use crate::relations::{RelationSets, set_of, unite};
 use crate::sets::{SymbolSet, only};
-use book::rules::Rule;
 
 pub trait Lookahead {
     // What the policy answers, and its law: every leftmost follower of the rule's left side gets yes.
     ghost policy: { Self → Policy };
 
     // The lookahead of the complete rule of this number, from 1 up, in a closed set: the symbols to which the policy says yes.
-    fn lookahead(
-        &self,
-        sets: &RelationSets,
-        rules: &[Rule],
-        closed: &[DotRow],
-        number: usize,
-    ) -> SymbolSet
-        ensures { result ≡ map (policy self.now (related_by sets.now (productions_of rules.now)) closed.now number) codes };
+    fn lookahead(&self, sets: &RelationSets, closed: &[DotRow], number: usize) -> SymbolSet
+        ensures { result ≡ map (policy self.now (related_by sets.now) closed.now number) codes };
 
     ghost lawful: { (x : Self) → Lawful (policy x) };
 }
@@ -33,16 +25,15 @@ pub trait Lookahead {
 pub fn lookahead_of<L: Lookahead>(
     look: &L,
     sets: &RelationSets,
-    rules: &[Rule],
     closed: &[DotRow],
     number: usize,
 ) -> SymbolSet
-    ensures { result ≡ lookahead_of (L.Lookahead.policy look.now (related_by sets.now (productions_of rules.now)) closed.now) number }
+    ensures { result ≡ lookahead_of (L.Lookahead.policy look.now (related_by sets.now) closed.now) number }
 {
     if number == 0 {
         return only(0);
     }
-    look.lookahead(sets, rules, closed, number)
+    look.lookahead(sets, closed, number)
 }
 
 // SLR: the followers of the rule's left side.
@@ -54,14 +45,8 @@ impl Lookahead for Slr {
 
     ghost lawful = { λ x. slr_lawful };
 
-    fn lookahead(
-        &self,
-        sets: &RelationSets,
-        rules: &[Rule],
-        closed: &[DotRow],
-        number: usize,
-    ) -> SymbolSet {
-        set_of(&sets.followers, left_of(rules, number))
+    fn lookahead(&self, sets: &RelationSets, closed: &[DotRow], number: usize) -> SymbolSet {
+        set_of(&sets.followers, left_of(sets.rules, number))
     }
 }
 
@@ -74,14 +59,8 @@ impl Lookahead for LeftmostFollow {
 
     ghost lawful = { λ x. leftmost_follow_lawful };
 
-    fn lookahead(
-        &self,
-        sets: &RelationSets,
-        rules: &[Rule],
-        closed: &[DotRow],
-        number: usize,
-    ) -> SymbolSet {
-        set_of(&sets.leftmosts, left_of(rules, number))
+    fn lookahead(&self, sets: &RelationSets, closed: &[DotRow], number: usize) -> SymbolSet {
+        set_of(&sets.leftmosts, left_of(sets.rules, number))
     }
 }
 
@@ -93,14 +72,14 @@ fn meet(one: &SymbolSet, other: &SymbolSet) -> bool
 }
 
 // Whether SLR lookaheads give a closed set a conflict among its own reads and lookaheads.
-fn is_conflicting(sets: &RelationSets, rules: &[Rule], closed: &[DotRow]) -> bool
-    ensures { result ≡ slr_conflicting (related_by sets.now (productions_of rules.now)) closed.now }
+fn is_conflicting(sets: &RelationSets, closed: &[DotRow]) -> bool
+    ensures { result ≡ slr_conflicting (related_by sets.now) closed.now }
 {
-    let mut seen = reads(rules, closed);
+    let mut seen = reads(sets.rules, closed);
     // Stays a range: the number itself is asked about, from the outer rule's 0 on, and nothing is indexed.
-    for number in 0..=rules.len() {
-        if is_complete(rules, closed, number) {
-            let lookahead = lookahead_of(&Slr, sets, rules, closed, number);
+    for number in 0..=sets.rules.len() {
+        if is_complete(sets.rules, closed, number) {
+            let lookahead = lookahead_of(&Slr, sets, closed, number);
             if meet(&seen, &lookahead) {
                 return true;
             }
@@ -121,17 +100,11 @@ impl<L: Lookahead> Lookahead for SlrIfAdequate<L> {
 
     ghost lawful = { λ x. slr_if_adequate_lawful (L.Lookahead.policy x.below) (L.Lookahead.lawful x.below) };
 
-    fn lookahead(
-        &self,
-        sets: &RelationSets,
-        rules: &[Rule],
-        closed: &[DotRow],
-        number: usize,
-    ) -> SymbolSet {
-        if is_conflicting(sets, rules, closed) {
-            return self.below.lookahead(sets, rules, closed, number);
+    fn lookahead(&self, sets: &RelationSets, closed: &[DotRow], number: usize) -> SymbolSet {
+        if is_conflicting(sets, closed) {
+            return self.below.lookahead(sets, closed, number);
         }
-        Slr.lookahead(sets, rules, closed, number)
+        Slr.lookahead(sets, closed, number)
     }
 }
 

@@ -58,11 +58,15 @@ fn corners_of_two_lists(rt: HostRuntime) -> Result<(), Fail> {
 #[test]
 fn followers_of_two_lists(rt: HostRuntime) -> Result<(), Fail> {
     let book = two_lists()?;
-    let sets = RelationSets::of(book.rules());
-    has_just(&rt, &sets.leftmosts[41], &[0]);
-    has_just(&rt, &sets.leftmosts[44], &[2, 44]);
-    has_just(&rt, &sets.followers[44], &[2, 44, 1]);
-    has_just(&rt, &sets.followers[45], &[3, 45, 1]);
+    let RelationSets {
+        leftmosts,
+        followers,
+        ..
+    } = RelationSets::of(book.rules());
+    has_just(&rt, &leftmosts[41], &[0]);
+    has_just(&rt, &leftmosts[44], &[2, 44]);
+    has_just(&rt, &followers[44], &[2, 44, 1]);
+    has_just(&rt, &followers[45], &[3, 45, 1]);
     Ok(())
 }
 
@@ -119,15 +123,11 @@ fn lookaheads_of_two_lists(rt: HostRuntime) -> Result<(), Fail> {
         below: LeftmostFollow,
     };
     let both = after_a_one();
-    has_just(&rt, &Slr.lookahead(&sets, rules, &both, 7), &[2, 44, 1]);
-    has_just(
-        &rt,
-        &LeftmostFollow.lookahead(&sets, rules, &both, 7),
-        &[2, 44],
-    );
-    has_just(&rt, &eased.lookahead(&sets, rules, &both, 7), &[2, 44]);
+    has_just(&rt, &Slr.lookahead(&sets, &both, 7), &[2, 44, 1]);
+    has_just(&rt, &LeftmostFollow.lookahead(&sets, &both, 7), &[2, 44]);
+    has_just(&rt, &eased.lookahead(&sets, &both, 7), &[2, 44]);
     let mut one = both;
     one[8][1] = false;
-    has_just(&rt, &eased.lookahead(&sets, rules, &one, 7), &[2, 44, 1]);
+    has_just(&rt, &eased.lookahead(&sets, &one, 7), &[2, 44, 1]);
     Ok(())
 }

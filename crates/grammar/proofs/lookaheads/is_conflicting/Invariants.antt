@@ -9,6 +9,6 @@ use Rattle.grammar.proofs.lookaheads.is_conflicting.Given as goal
 
 abbrev pub invariant-loop-number : goal.invariant-loop-number
 invariant-loop-number l =
-    overlap l.seen (map (lookahead_of (slr (related_by l.sets (productions_of l.rules)) l.closed))
-    (keep (is_complete (numbered (productions_of l.rules)) l.closed) (up_from l.number (length (numbered (productions_of l.rules)) - l.number))))
-    ≡ slr_conflicting (related_by l.sets (productions_of l.rules)) l.closed
+    overlap l.seen (map (lookahead_of (slr (related_by l.sets) l.closed))
+    (keep (is_complete (numbered (productions_of l.sets.rules.now)) l.closed) (up_from l.number (length (numbered (productions_of l.sets.rules.now)) - l.number))))
+    ≡ slr_conflicting (related_by l.sets) l.closed

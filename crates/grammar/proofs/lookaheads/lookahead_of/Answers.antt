@@ -1,5 +1,4 @@
 use Rattle.std.proofs.Common.{sym, ◌∙◌}
-use Rattle.book.specs.Held.{productions_of}
 use Rattle.grammar.specs.Relating.{related_by}
 use Rattle.grammar.proofs.Overlapping.{lookahead_own}
 use Rattle.grammar.proofs.lookaheads.lookahead_of.Goals as goal
@@ -7,4 +6,4 @@ use Rattle.grammar.proofs.lookaheads.lookahead_of.Goals as goal
 pub returns : goal.returns
 returns g c =
     c.lookahead.ensures
-    ∙ sym (lookahead_own (g.L.Lookahead.policy c.args.look.now (related_by c.args.sets.now (productions_of c.args.rules.now)) c.args.closed.now) c.args.number c.if-number-eq0.false)
+    ∙ sym (lookahead_own (g.L.Lookahead.policy c.args.look.now (related_by c.args.sets.now) c.args.closed.now) c.args.number c.if-number-eq0.false)
