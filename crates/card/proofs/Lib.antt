@@ -1,4 +1,3 @@
-pub mod Marks
 pub mod Filling
 pub mod Serving
 pub mod Stands

@@ -1,5 +1,5 @@
 -- The promise of a read, after every service.
-use Rattle.std.proofs.Common.{◌≡◌, ℕ, true, ◌&&◌, leb, List, [], ◌∷◌, length, is_some, Some, None, Option, unwrap_or, sym, refl, ap, ◌∙◌, subst}
+use Rattle.std.proofs.Common.{◌≡◌, ℕ, Bool, true, false, ◌&&◌, leb, List, [], ◌∷◌, length, is_some, Some, None, Option, unwrap_or, sym, refl, ap, ◌∙◌, subst}
 use Rattle.std.proofs.lemmas.Bool.{false≢true, and_parts}
 use Rattle.book.specs.Answers.{Answer, granted, refused, leaves}
 use Rattle.book.specs.Files.{load_says}
@@ -17,8 +17,12 @@ use Rattle.card.specs.Cards.{model_of}
 use Rattle.card.specs.Models.{Model, unbuilt, built_with}
 use Rattle.card.specs.Histories.{Call, calls_load, calls_enter, calls_strike, calls_build, calls_read, after}
 use Rattle.card.specs.Wanting.{unread, read_of, read_on}
-use Rattle.card.proofs.Marks.{is_grant}
 use Rattle.card.specs.Promises.{rules_by, Built, Grounded, Promise, PromisedWhole}
+
+-- tells a grant from a refusal
+abbrev is_grant : {A : Type 0} → Answer A → Bool
+is_grant (granted x) = true
+is_grant (refused n) = false
 
 -- The rows that a service leaves are those of a build of the rules that it leaves.
 

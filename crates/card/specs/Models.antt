@@ -1,5 +1,5 @@
 -- A card as its callers know it, and what each call makes of it.
-use Rattle.std.specs.Prelude.{ℕ, ◌-◌, Bool, cond, List, [], ◌∷◌, ◌++◌, take, drop, Some, None, Option}
+use Rattle.std.specs.Prelude.{ℕ, ◌-◌, List, [], ◌∷◌, ◌++◌, take, drop, Some, None, Option}
 use Rattle.book.specs.Answers.{leaves}
 use Rattle.book.specs.Rules.{Production, enter_says, strike_says}
 use Rattle.book.specs.Files.{load_says}
@@ -10,10 +10,6 @@ use Rattle.grammar.specs.Build.{Act, build_says}
 pub record Model : Type 0 where
   pub held_rules : List Production
   pub held_rows : Option (List (List Act))
-
--- a card with these rules and these rows, which count only where it is built
-abbrev pub standing : List Production → Bool → List (List Act) → Model
-standing rules mark rows = record { held_rules = rules; held_rows = cond mark (Some rows) None }
 
 abbrev pub unbuilt : List Production → Model
 unbuilt rules = record { held_rules = rules; held_rows = None }

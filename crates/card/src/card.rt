@@ -14,9 +14,8 @@ pub mod calls;
 #[derive(Drop)]
 pub struct Card {
     book: Book,
-    tables: Tables,
-    built: bool,
+    tables: Option<Tables>,
     stacks: Stacks,
     ghost sound: { is_well_formed (rules_of book) ≡ true },
-    ghost belongs: { Belongs built book tables },
+    ghost belongs: { Belongs book tables },
 }

@@ -31,31 +31,6 @@ use reading::runs::run;
 use source::sources::Source;
 use tables::building::{BuildError, Tables};
 
-// Fills tables from a book. What they are after a refusal is free.
-fn fill_from<L: Lookahead>(tables: &mut Tables, book: &Book, look: &L) -> Result<(), BuildError>
-    ensures { said_of (λ _. table_of tables.new) build_refusal result ≡ fill_says (L.Lookahead.policy look.now) (rules_of book.now) }
-{
-    tables.fill(book.rules(), look)
-}
-
-// Reads a source by the tables of a book.
-fn read_by<S: Source>(
-    tables: &Tables,
-    book: &Book,
-    stacks: &mut Stacks,
-    source: &mut S,
-    steps: &mut [Step],
-) -> Outcome
-    requires built { Belonging (rules_of book.now) (table_of tables.now) }
-    ensures answer { read_says (rules_of book.now) 0 (next_in (table_of tables.now)) (action_in (table_of tables.now)) (length steps.old) (S.Source.means source.old) ≡ Some (answer_of result steps.new) }
-    ensures kept { ∥ Kept (rules_of book.now) (codes_of (S.Source.means source.old).tokens) (S.Source.means source.old).ending (length steps.old) (answer_of result steps.new) ∥₁ }
-    ensures within { result.steps ≤ length steps.old }
-    ensures back { drop result.steps steps.new ≡ drop result.steps steps.old }
-    ensures rest { S.Source.means source.new ≡ after_words result.words (S.Source.means source.old) }
-{
-    run(tables, book.rules(), stacks, source, steps)
-}
-
 impl Card {
     // No rules, not built.
     pub fn new() -> Card
@@ -63,8 +38,7 @@ impl Card {
     {
         Card {
             book: Book::new(),
-            tables: Tables::new(),
-            built: false,
+            tables: None,
             stacks: Stacks::new(),
         }
     }
@@ -75,9 +49,9 @@ impl Card {
         ensures model { model_of self.new ≡ step_of (calls_enter (left ⟶ right.now)) (model_of self.old) }
         ensures service { Serves (calls_enter (left ⟶ right.now)) (model_of self.old) (model_of self.new) }
     {
-        let entered = self.book.enter(left, right);
-        self.built = self.built & entered.is_err();
-        entered
+        self.book.enter(left, right)?;
+        self.tables = None;
+        Ok(())
     }
 
     // Takes out the rule of this number; later rules move down one number.
@@ -86,9 +60,9 @@ impl Card {
         ensures model { model_of self.new ≡ step_of (calls_strike number) (model_of self.old) }
         ensures service { Serves (calls_strike number) (model_of self.old) (model_of self.new) }
     {
-        let struck = self.book.strike(number);
-        self.built = self.built & struck.is_err();
-        struck
+        self.book.strike(number)?;
+        self.tables = None;
+        Ok(())
     }
 
     // Replaces the rules by those of a file.
@@ -98,9 +72,9 @@ impl Card {
         ensures service { Serves (calls_load bytes.now) (model_of self.old) (model_of self.new) }
         ensures file { OnOk result (IsFileOf bytes.now (model_of self.new).held_rules) }
     {
-        let loaded = self.book.load(bytes);
-        self.built = self.built & loaded.is_err();
-        loaded
+        self.book.load(bytes)?;
+        self.tables = None;
+        Ok(())
     }
 
     // Writes the file of the rules at the start of a buffer, and answers how many bytes it has.
@@ -126,9 +100,11 @@ impl Card {
         ensures model { (law : Lawful (L.Lookahead.policy look.now)) → model_of self.new ≡ step_of (calls_build (L.Lookahead.policy look.now) law) (model_of self.old) }
         ensures service { (law : Lawful (L.Lookahead.policy look.now)) → Serves (calls_build (L.Lookahead.policy look.now) law) (model_of self.old) (model_of self.new) }
     {
-        let answer = fill_from(&mut self.tables, &self.book, look);
-        self.built = answer.is_ok();
-        answer
+        self.tables = None; // so it stays if the build is refused
+        let mut tables = Tables::new();
+        tables.fill(self.book.rules(), look)?;
+        self.tables = Some(tables);
+        Ok(())
     }
 
     // Writes the row of a state as numbers at the start of a buffer, and answers how many they are.
@@ -136,13 +112,10 @@ impl Card {
         ensures answer { said card_row_refusal result ≡ row_of (model_of self.now).held_rows state (length out.old) }
         ensures out { out.new ≡ row_into (model_of self.now).held_rows state out.old }
     {
-        if !self.built {
+        let Some(tables) = &self.tables else {
             return Err(CardRowError::NotBuilt);
-        }
-        match self.tables.row(state, out) {
-            Ok(count) => Ok(count),
-            Err(e) => Err(CardRowError::Row(e)),
-        }
+        };
+        tables.row(state, out).map_err(CardRowError::Row)
     }
 
     // Reads a source by the tables. The steps go to the front of the list.
@@ -163,9 +136,9 @@ impl Card {
         ensures whole { PromisedWhole (model_of self.old) (length list.old) (S.Source.means source.old) (told_by result list.new) }
         ensures stood { Stood (model_of self.old) }
     {
-        if !self.built {
+        let Some(tables) = &self.tables else {
             return Err(ReadError::NotBuilt);
-        }
-        Ok(read_by(&self.tables, &self.book, &mut self.stacks, source, list))
+        };
+        Ok(run(tables, self.book.rules(), &mut self.stacks, source, list))
     }
 }

@@ -1,31 +1,53 @@
-use Rattle.std.proofs.Common.{◌∙◌}
+use Rattle.std.proofs.Common.{◌≡◌, ap, ◌∙◌}
+use Rattle.std.proofs.lemmas.Result.{err_from_is_err_and}
+use Rattle.book.specs.Answers.{granted, refused}
 use Rattle.book.specs.Held.{rules_of}
 use Rattle.grammar.specs.Build.{build_says}
-use Rattle.tables.specs.Built.{table_of}
-use Rattle.card.specs.Models.{standing}
+use Rattle.tables.specs.Built.{table_of, build_refusal, fill_says}
 use Rattle.card.specs.Cards.{model_of}
 use Rattle.card.specs.Histories.{calls_build}
-use Rattle.card.proofs.Filling.{fills, fill_belongs, fill_leaves, fill_answers}
+use Rattle.card.specs.Models.{unbuilt, built_with}
+use Rattle.card.proofs.Filling.{fills, refused_leaves, granted_leaves, refused_answers, granted_answers, granted_belongs, none_belongs}
 use Rattle.card.proofs.Serving.{serves}
 use Rattle.card.proofs.card.Card.build.Goals as goal
 
 pub invariant_of-self : goal.invariant_of-self
-invariant_of-self g c =
+invariant_of-self g c = record { sound = c.args.self.now.sound; belongs = none_belongs c.args.self.now.book }
+
+pub returns-in_err-fill : goal.returns-in_err-fill
+returns-in_err-fill g c =
     let card = c.args.self.now in
     let policy = g.L.Lookahead.policy c.args.look.now in
-    let says = c.fill_from-answer.ensures ∙ fills policy (rules_of card.book) card.sound in record { sound = card.sound; belongs = fill_belongs policy (g.met.L.Lookahead.lawful c.args.look.now) c.fill_from-answer.result c.is_ok-self.result c.is_ok-self.ensures.value card.book c.fill_from-answer.new.tables says }
+    let rules = rules_of card.book in
+    let says : refused (build_refusal c.in_err-fill.field-0.0) ≡ build_says policy rules = c.in_err-fill.ensures ∙ ap (fill_says policy) c.rules.ensures.value ∙ fills policy rules card.sound in
+    let model = refused_leaves rules (build_refusal c.in_err-fill.field-0.0) (build_says policy rules) says in
+    let p = err_from_is_err_and c.from_residual.result c.from_residual.ensures.1 in
+    record {
+      answer = rw (p.1, p.2) (refused_answers (build_refusal c.in_err-fill.field-0.0) (build_says policy rules) says);
+      lawful = g.met.L.Lookahead.lawful c.args.look.now;
+      model = λ law. model;
+      service = λ law. serves (calls_build policy law) (model_of card) (unbuilt rules) model;
+    }
+
+pub invariant_of-self-2 : goal.invariant_of-self-2
+invariant_of-self-2 g c =
+    let card = c.args.self.now in
+    let policy = g.L.Lookahead.policy c.args.look.now in
+    let rules = rules_of card.book in
+    let says : granted (table_of c.fill.new.self) ≡ build_says policy rules = c.in_ok-fill.ensures ∙ ap (fill_says policy) c.rules.ensures.value ∙ fills policy rules card.sound in
+    record { sound = card.sound; belongs = granted_belongs policy (g.met.L.Lookahead.lawful c.args.look.now) card.book c.fill.new.self says }
 
 pub returns : goal.returns
 returns g c =
     let card = c.args.self.now in
     let policy = g.L.Lookahead.policy c.args.look.now in
     let rules = rules_of card.book in
-    let rows = table_of c.fill_from-answer.new.tables in
-    let says = c.fill_from-answer.ensures ∙ fills policy rules card.sound in
-    let model = fill_leaves c.fill_from-answer.result c.is_ok-self.result c.is_ok-self.ensures.value rules rows (build_says policy rules) says in
+    let rows = table_of c.fill.new.self in
+    let says : granted rows ≡ build_says policy rules = c.in_ok-fill.ensures ∙ ap (fill_says policy) c.rules.ensures.value ∙ fills policy rules card.sound in
+    let model = granted_leaves rules rows (build_says policy rules) says in
     record {
-      answer = fill_answers c.fill_from-answer.result rows (build_says policy rules) says;
+      answer = granted_answers rows (build_says policy rules) says;
       lawful = g.met.L.Lookahead.lawful c.args.look.now;
       model = λ law. model;
-      service = λ law. serves (calls_build policy law) (model_of card) (standing rules c.is_ok-self.result rows) model;
+      service = λ law. serves (calls_build policy law) (model_of card) (built_with rules rows) model;
     }

@@ -1,4 +1,7 @@
-use Rattle.std.proofs.Common.{◌≡◌, length, Some, rules}
+use Rattle.std.proofs.Common.{◌≡◌, List, length, Some, sym, subst, rules}
+use Rattle.book.specs.Rules.{Production}
+use Rattle.tables.specs.Built.{table_of}
+use Rattle.reading.specs.Building.{Belonging}
 use Rattle.reading.specs.Told.{answer_of}
 use Rattle.card.specs.Cards.{model_of}
 use Rattle.card.specs.Wanting.{unread, read_on}
@@ -6,8 +9,8 @@ use Rattle.card.proofs.Promises.{promised_on}
 use Rattle.card.proofs.Stands.{stands}
 use Rattle.card.proofs.card.Card.read.Goals as goal
 
-pub returns-then-not-self : goal.returns-then-not-self
-returns-then-not-self g c =
+pub returns-in_default : goal.returns-in_default
+returns-in_default g c =
     let card = c.args.self.now in
     let s = g.S.Source.means c.args.source.now in
     let room = length c.args.list.now in
@@ -26,12 +29,15 @@ returns-then-not-self g c =
       stood = stands card;
     }
 
+pub run-requires : goal.run-requires
+run-requires g c = record { built = subst (λ (rules : List Production). Belonging rules (table_of c.in-Some.tables)) (sym c.rules.ensures.value) (c.args.self.now.belongs c.in-Some.tables c.in-Some.is) }
+
 pub returns : goal.returns
 returns g c =
     let card = c.args.self.now in
     let s = g.S.Source.means c.args.source.now in
     let room = length c.args.list.now in
-    let a = answer_of c.read_by.result c.read_by.new.steps in
+    let a = answer_of c.run.result c.run.new.steps in
     let says : read_on (model_of card) room s ≡ Some a = search rules in
     record {
       answer = says;
