@@ -23,9 +23,12 @@ most_numbered = 101
 abbrev pub lines_of : List Rule → List Production
 lines_of rs = numbered (productions_of rs)
 
--- what a build's relation sets stand for
+-- the rules of a build, and what its relation sets stand for
+abbrev pub rules_in : {L : Type 0} → Build L → List Rule
+rules_in b = b.sets.now.rules.now
+
 abbrev pub relations_in : {L : Type 0} → Build L → Relations
-relations_in b = related_by b.sets.now (productions_of b.rules.now)
+relations_in b = related_by b.sets.now
 
 -- the rows of an item set that belong to rules
 abbrev pub rows_for : List Rule → Items → Items

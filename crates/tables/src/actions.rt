@@ -2,16 +2,15 @@
 ghost use Rattle.std.specs.Prelude.{◌≡◌, ◌+◌, ◌<◌, ◌≤◌, map, length, slice_index_or};
 ghost use Rattle.grammar.specs.Build.{nothing, beside, reduce_by, row_of};
 ghost use Rattle.grammar.specs.Items.{close, complete_in, reads};
-ghost use Rattle.grammar.specs.Lookahead.{lookahead_of};
 ghost use Rattle.grammar.specs.Sets.{codes, symbol_count};
 ghost use Rattle.tables.specs.Acts.{act_of, acts_of, cell_act, shift_at, besides, Settled, reduced};
-ghost use Rattle.tables.specs.Kept.{relations_in, lines_of, rows_for, kernels_in};
+ghost use Rattle.tables.specs.Kept.{rules_in, relations_in, lines_of, rows_for, kernels_in};
 
 use crate::builds::Build;
 use crate::kernels::Kernels;
 use crate::moving::ItemSet;
 use grammar::items::{is_complete, reads};
-use grammar::lookaheads::Lookahead;
+use grammar::lookaheads::{Lookahead, lookahead_of};
 use grammar::sets::{SYMBOLS, SymbolSet};
 
 #[derive(Clone, Copy, PartialEq, Debug)]
@@ -86,7 +85,7 @@ impl<L: Lookahead> Build<'_, L> {
     // The shift over a symbol, where the set has it.
     fn shift_over(&self, kernels: &Kernels, items: &ItemSet, set: &SymbolSet, x: usize) -> Cell
         requires code { x < symbol_count }
-        ensures { let rules = self.now.rules.now in cell_act result ≡ shift_at (kernels_in (length rules + 1) kernels.now) (lines_of rules) (rows_for rules items.now.rows) set.now x }
+        ensures { let rules = rules_in self.now in cell_act result ≡ shift_at (kernels_in (length rules + 1) kernels.now) (lines_of rules) (rows_for rules items.now.rows) set.now x }
     {
         if !set[x] {
             return Ok(None);
@@ -98,9 +97,9 @@ impl<L: Lookahead> Build<'_, L> {
 
     // The shifts of a state with these items.
     fn shifts(&self, kernels: &Kernels, items: &ItemSet) -> Cells
-        ensures { let rules = self.now.rules.now in map cell_act result ≡ map (shift_at (kernels_in (length rules + 1) kernels.now) (lines_of rules) (rows_for rules items.now.rows) (reads (lines_of rules) (rows_for rules items.now.rows))) codes }
+        ensures { let rules = rules_in self.now in map cell_act result ≡ map (shift_at (kernels_in (length rules + 1) kernels.now) (lines_of rules) (rows_for rules items.now.rows) (reads (lines_of rules) (rows_for rules items.now.rows))) codes }
     {
-        let set = reads(self.rules, self.rows(items));
+        let set = reads(self.sets.rules, self.rows(items));
         let mut cells = [Ok(None); SYMBOLS];
         for (x, cell) in cells.iter_mut().enumerate() {
             *cell = self.shift_over(kernels, items, &set, x);
@@ -108,35 +107,23 @@ impl<L: Lookahead> Build<'_, L> {
         cells
     }
 
-    // The lookahead of a complete rule; that of the outer rule is the end mark alone.
-    fn ahead_of(&self, closed: &ItemSet, number: usize) -> SymbolSet
-        ensures { result ≡ lookahead_of (L.Lookahead.policy self.now.look.now (relations_in self.now) (rows_for self.now.rules.now closed.now.rows)) number }
-    {
-        if number == 0 {
-            let mut end = [false; SYMBOLS];
-            end[0] = true;
-            return end;
-        }
-        self.look
-            .lookahead(self.sets, self.rules, self.rows(closed), number)
-    }
-
     // The complete rules of a closed set act beside what is there.
     fn reduce_all(&self, closed: &ItemSet, cells: &mut Cells)
-        ensures { let base = rows_for self.now.rules.now closed.now.rows in map cell_act cells.new ≡ reduced (L.Lookahead.policy self.now.look.now (relations_in self.now) base) (complete_in (lines_of self.now.rules.now) base) (map cell_act cells.old) }
+        ensures { let base = rows_for (rules_in self.now) closed.now.rows in map cell_act cells.new ≡ reduced (L.Lookahead.policy self.now.look.now (relations_in self.now) base) (complete_in (lines_of (rules_in self.now)) base) (map cell_act cells.old) }
     {
-        let n = self.rules.len() + 1;
+        let n = self.sets.rules.len() + 1;
         // Stays by number: what is asked and done goes by a rule's number, and no element is read.
         for number in 0..n {
-            if is_complete(self.rules, self.rows(closed), number) {
-                reduce_by(cells, &self.ahead_of(closed, number), number as u8);
+            if is_complete(self.sets.rules, self.rows(closed), number) {
+                let ahead = lookahead_of(self.look, self.sets, self.rows(closed), number);
+                reduce_by(cells, &ahead, number as u8);
             }
         }
     }
 
     // The row in the making of a state, from its closed kernel.
     fn cells_of(&self, kernels: &Kernels, closed: &ItemSet) -> Cells
-        ensures { let rules = self.now.rules.now in map cell_act result ≡ row_of (L.Lookahead.policy self.now.look.now) (relations_in self.now) (kernels_in (length rules + 1) kernels.now) (rows_for rules closed.now.rows) }
+        ensures { let rules = rules_in self.now in map cell_act result ≡ row_of (L.Lookahead.policy self.now.look.now) (relations_in self.now) (kernels_in (length rules + 1) kernels.now) (rows_for rules closed.now.rows) }
     {
         let mut cells = self.shifts(kernels, &self.expanded(closed));
         self.reduce_all(closed, &mut cells);
@@ -145,7 +132,7 @@ impl<L: Lookahead> Build<'_, L> {
 
     // The row of the state with this kernel, or the lowest symbol in conflict.
     pub(crate) fn row_of(&self, kernels: &Kernels, kernel: &ItemSet) -> Result<Row, u8>
-        ensures { let rules = self.now.rules.now in Settled (row_of (L.Lookahead.policy self.now.look.now) (relations_in self.now) (kernels_in (length rules + 1) kernels.now) (close (lines_of rules) (rows_for rules kernel.now.rows))) result }
+        ensures { let rules = rules_in self.now in Settled (row_of (L.Lookahead.policy self.now.look.now) (relations_in self.now) (kernels_in (length rules + 1) kernels.now) (close (lines_of rules) (rows_for rules kernel.now.rows))) result }
     {
         settle(&self.cells_of(kernels, &self.closed(kernel)))
     }

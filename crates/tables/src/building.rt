@@ -6,7 +6,7 @@ ghost use Rattle.grammar.specs.Build.{rows_of, without_conflict, built_by};
 ghost use Rattle.grammar.specs.States.{most_states};
 ghost use Rattle.tables.specs.Acts.{act_of, acts_of};
 ghost use Rattle.tables.specs.Built.{table_of, build_refusal, fill_says, row_refusal, row_says, row_in};
-ghost use Rattle.tables.specs.Kept.{relations_in, kernels_in};
+ghost use Rattle.tables.specs.Kept.{rules_in, relations_in, kernels_in};
 ghost use Rattle.tables.specs.Looked.{act_in};
 
 use crate::actions::{Action, Row};
@@ -73,7 +73,7 @@ impl Tables {
         build: &Build<L>,
         kernels: &Kernels,
     ) -> Result<(), BuildError>
-        ensures { said_of (λ _. table_of self.new) build_refusal result ≡ without_conflict (rows_of (L.Lookahead.policy build.now.look.now) (relations_in build.now) (kernels_in (length build.now.rules.now + 1) kernels.now)) }
+        ensures { said_of (λ _. table_of self.new) build_refusal result ≡ without_conflict (rows_of (L.Lookahead.policy build.now.look.now) (relations_in build.now) (kernels_in (length (rules_in build.now) + 1) kernels.now)) }
     {
         for (s, kernel) in kernels.found().iter().enumerate() {
             match build.row_of(kernels, kernel) {
@@ -106,11 +106,7 @@ impl Tables {
             return Err(BuildError::Useless(x));
         }
         let sets = RelationSets::of(rules);
-        self.construct(&Build {
-            look,
-            sets: &sets,
-            rules,
-        })
+        self.construct(&Build { look, sets: &sets })
     }
 
     // The rows of the states, in order.

@@ -2,14 +2,12 @@
 ghost use Rattle.std.specs.Prelude.{◌≤◌, length};
 ghost use Rattle.book.specs.Symbols.{most_rules};
 
-use book::rules::Rule;
 use grammar::relations::RelationSets;
 
-// The rules of a book, their relations, and a lookahead policy.
+// A lookahead policy, and the rules of a book with their relations.
 #[derive(Drop)]
 pub(crate) struct Build<'a, L> {
     pub(crate) look: &'a L,
-    pub(crate) sets: &'a RelationSets,
-    pub(crate) rules: &'a [Rule],
-    ghost few: { length rules.now ≤ most_rules },
+    pub(crate) sets: &'a RelationSets<'a>,
+    ghost few: { length sets.now.rules.now ≤ most_rules },
 }

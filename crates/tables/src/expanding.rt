@@ -4,7 +4,7 @@ ghost use Rattle.grammar.specs.Lookahead.{leads, expand_for};
 ghost use Rattle.grammar.specs.Relating.{related_by};
 ghost use Rattle.grammar.specs.Sets.{has};
 ghost use Rattle.grammar.specs.States.{items_from};
-ghost use Rattle.tables.specs.Kept.{relations_in, rows_for, calls_for};
+ghost use Rattle.tables.specs.Kept.{rules_in, relations_in, rows_for, calls_for};
 
 use crate::builds::Build;
 use crate::moving::ItemSet;
@@ -18,7 +18,7 @@ const SYMBOL_CODES: u8 = 81;
 
 // Whether some nonterminal is a leftmost follower of a and has b as a left corner.
 fn leads(sets: &RelationSets, a: u8, b: u8) -> bool
-    ensures { result ≡ leads (related_by sets.now []) a b }
+    ensures { result ≡ leads (related_by sets.now) a b }
 {
     (FIRST_NONTERMINAL..SYMBOL_CODES).any(|f| related(&sets.leftmosts, a, f)
         & related(&sets.lefts, f, b))
@@ -29,17 +29,17 @@ impl<L: Lookahead> Build<'_, L> {
     fn calls_for(&self, left: u8, ahead: &SymbolSet, q: usize) -> bool
         ensures { result ≡ calls_for (relations_in self.now) left ahead.now q }
     {
-        if contains(ahead, right_of(self.rules, q)[0]) {
+        if contains(ahead, right_of(self.sets.rules, q)[0]) {
             return false;
         }
-        leads(self.sets, left, left_of(self.rules, q))
+        leads(self.sets, left, left_of(self.sets.rules, q))
     }
 
     // Puts in the rules that one complete rule with this lookahead calls for.
     fn expand_by(&self, number: usize, ahead: &SymbolSet, items: &mut [DotRow])
         ensures { items.new ≡ expand_for (relations_in self.now) (λ _. has ahead.now) (number ∷ []) items.old }
     {
-        let left = left_of(self.rules, number);
+        let left = left_of(self.sets.rules, number);
         // Stays by number: no proof knows what is written through an adapter of `iter_mut`, as `skip(1)`.
         for q in 1..items.len() {
             if self.calls_for(left, ahead, q) {
@@ -50,16 +50,14 @@ impl<L: Lookahead> Build<'_, L> {
 
     // The items of a state, from its closed kernel.
     pub(crate) fn expanded(&self, closed: &ItemSet) -> ItemSet
-        ensures { rows_for self.now.rules.now result.rows ≡ items_from (L.Lookahead.policy self.now.look.now) (relations_in self.now) (rows_for self.now.rules.now closed.now.rows) }
+        ensures { rows_for (rules_in self.now) result.rows ≡ items_from (L.Lookahead.policy self.now.look.now) (relations_in self.now) (rows_for (rules_in self.now) closed.now.rows) }
     {
-        let n = self.rules.len() + 1;
+        let n = self.sets.rules.len() + 1;
         let mut rows = closed.rows;
         // Stays by number: what is asked and done goes by a rule's number, and no element is read.
         for number in 1..n {
-            if is_complete(self.rules, self.rows(closed), number) {
-                let ahead = self
-                    .look
-                    .lookahead(self.sets, self.rules, self.rows(closed), number);
+            if is_complete(self.sets.rules, self.rows(closed), number) {
+                let ahead = self.look.lookahead(self.sets, self.rows(closed), number);
                 self.expand_by(number, &ahead, &mut rows[..n]);
             }
         }

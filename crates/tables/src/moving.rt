@@ -2,7 +2,7 @@
 ghost use Rattle.std.specs.Prelude.{◌≡◌, ◌+◌, ◌≤◌, false, ◌∷◌, length, take};
 ghost use Rattle.book.specs.Symbols.{longest_right};
 ghost use Rattle.grammar.specs.Items.{before, onward};
-ghost use Rattle.tables.specs.Kept.{lines_of, rows_for};
+ghost use Rattle.tables.specs.Kept.{rules_in, lines_of, rows_for};
 
 use crate::builds::Build;
 use book::rules::LONGEST_RIGHT;
@@ -32,19 +32,19 @@ fn move_row(right: &[u8], row: &DotRow, symbol: u8) -> DotRow
 impl<L> Build<'_, L> {
     // The rows that belong to rules.
     pub(crate) fn rows<'b>(&self, items: &'b ItemSet) -> &'b [DotRow]
-        ensures value { result.now ≡ rows_for self.now.rules.now items.now.rows }
-        ensures len { length result.now ≡ length self.now.rules.now + 1 }
+        ensures value { result.now ≡ rows_for (rules_in self.now) items.now.rows }
+        ensures len { length result.now ≡ length (rules_in self.now) + 1 }
     {
-        &items.rows[..=self.rules.len()]
+        &items.rows[..=self.sets.rules.len()]
     }
 
     // The kernel over a symbol.
     pub(crate) fn onward(&self, items: &ItemSet, symbol: u8) -> ItemSet
-        ensures { rows_for self.now.rules.now result.rows ≡ onward symbol (lines_of self.now.rules.now) (rows_for self.now.rules.now items.now.rows) }
+        ensures { rows_for (rules_in self.now) result.rows ≡ onward symbol (lines_of (rules_in self.now)) (rows_for (rules_in self.now) items.now.rows) }
     {
         let mut rows = [[false; DOTS]; MOST_NUMBERED];
         for (k, row) in self.rows(items).iter().enumerate() {
-            rows[k] = move_row(right_of(self.rules, k), row, symbol);
+            rows[k] = move_row(right_of(self.sets.rules, k), row, symbol);
         }
         ItemSet { rows }
     }

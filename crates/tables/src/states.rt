@@ -2,7 +2,7 @@
 ghost use Rattle.std.specs.Prelude.{◌≡◌, ◌+◌, ◌<◌, MatchResult, length};
 ghost use Rattle.grammar.specs.Items.{close, start_kernel};
 ghost use Rattle.grammar.specs.States.{visit, kernels_of, most_states};
-ghost use Rattle.tables.specs.Kept.{relations_in, lines_of, rows_for, kernels_in, Found};
+ghost use Rattle.tables.specs.Kept.{rules_in, relations_in, lines_of, rows_for, kernels_in, Found};
 
 use crate::builds::Build;
 use crate::closing::close;
@@ -14,7 +14,7 @@ use grammar::lookaheads::Lookahead;
 impl<L: Lookahead> Build<'_, L> {
     // The kernel of state 0: the outer rule with its dot at 0.
     fn start_kernel(&self) -> ItemSet
-        ensures { rows_for self.now.rules.now result.rows ≡ start_kernel (lines_of self.now.rules.now) }
+        ensures { rows_for (rules_in self.now) result.rows ≡ start_kernel (lines_of (rules_in self.now)) }
     {
         let mut rows = [[false; DOTS]; MOST_NUMBERED];
         rows[0][0] = true;
@@ -23,19 +23,19 @@ impl<L: Lookahead> Build<'_, L> {
 
     // A kernel, closed.
     pub(crate) fn closed(&self, kernel: &ItemSet) -> ItemSet
-        ensures { rows_for self.now.rules.now result.rows ≡ close (lines_of self.now.rules.now) (rows_for self.now.rules.now kernel.now.rows) }
+        ensures { rows_for (rules_in self.now) result.rows ≡ close (lines_of (rules_in self.now)) (rows_for (rules_in self.now) kernel.now.rows) }
     {
         let mut rows = kernel.rows;
-        close(self.rules, &mut rows[..=self.rules.len()]);
+        close(self.sets.rules, &mut rows[..=self.sets.rules.len()]);
         ItemSet { rows }
     }
 
     // The kernels of the states that follow a state with these items are found.
     fn visit(&self, kernels: &mut Kernels, items: &ItemSet) -> Result<(), Full>
-        ensures { let rules = self.now.rules.now in Found (length rules + 1) (visit (lines_of rules) (rows_for rules items.now.rows) (kernels_in (length rules + 1) kernels.old)) kernels.new result }
+        ensures { let rules = rules_in self.now in Found (length rules + 1) (visit (lines_of rules) (rows_for rules items.now.rows) (kernels_in (length rules + 1) kernels.old)) kernels.new result }
     {
-        let n = self.rules.len() + 1;
-        let set = reads(self.rules, self.rows(items));
+        let n = self.sets.rules.len() + 1;
+        let set = reads(self.sets.rules, self.rows(items));
         for (x, read) in set.iter().enumerate() {
             if *read {
                 kernels.find(n, &self.onward(items, x as u8))?;
@@ -46,7 +46,7 @@ impl<L: Lookahead> Build<'_, L> {
 
     // The kernels of all states.
     pub(crate) fn explore(&self) -> Result<Kernels, Full>
-        ensures { let all = kernels_of (L.Lookahead.policy self.now.look.now) (relations_in self.now) in MatchResult result (λ kernels. kernels_in (length self.now.rules.now + 1) kernels ≡ all) (λ _. most_states < length all) }
+        ensures { let all = kernels_of (L.Lookahead.policy self.now.look.now) (relations_in self.now) in MatchResult result (λ kernels. kernels_in (length (rules_in self.now) + 1) kernels ≡ all) (λ _. most_states < length all) }
     {
         let mut kernels = Kernels::of(&self.start_kernel());
         let mut state = 0;

@@ -3,7 +3,7 @@ use lib.ListN.{length-map}
 use Rattle.book.specs.Held.{production_of}
 use Rattle.grammar.specs.Build.{reduce_by}
 use Rattle.grammar.specs.Items.{is_complete}
-use Rattle.grammar.specs.Lookahead.{Look}
+use Rattle.grammar.specs.Lookahead.{Look, lookahead_of}
 use Rattle.grammar.specs.Sets.{keep, up_from}
 use Rattle.grammar.proofs.Turns.{up_done}
 use Rattle.tables.specs.Acts.{cell_act, besides, reduced}
@@ -14,7 +14,7 @@ use Rattle.tables.proofs.builds.Build.reduce_all.Goals.{then-is_complete, else-i
 
 pub loop-number-init : goal.loop-number-init
 loop-number-init g c =
-    let rs = c.args.self.now.rules.now in
+    let rs = c.args.self.now.sets.now.rules.now in
     let base = rows_for rs c.args.closed.now.rows in
     let look : Look = g.L.Lookahead.policy c.args.self.now.look.now (relations_in c.args.self.now) base in
     let e : length (lines_of rs) - 0 ≡ length (lines_of rs) = omega arith in
@@ -22,7 +22,7 @@ loop-number-init g c =
 
 pub loop-number-preserved : goal.loop-number-preserved
 loop-number-preserved g c =
-    let rs = c.args.self.now.rules.now in
+    let rs = c.args.self.now.sets.now.rules.now in
     let base = rows_for rs c.args.closed.now.rows in
     let look : Look = g.L.Lookahead.policy c.args.self.now.look.now (relations_in c.args.self.now) base in
     let p = is_complete (lines_of rs) base in
@@ -34,7 +34,7 @@ loop-number-preserved g c =
     let same : c.is_complete.result ≡ p k = c.is_complete.ensures ∙ ap (λ q. is_complete (lines_of rs) q k) c.rows.ensures.value in
     elim c.if-is_complete.branch [
       | then-is_complete w ↦
-          ap rest (ap (map cell_act) w.cells-is ∙ w.reduce_by.ensures ∙ ap (λ s. besides (reduce_by k) s acts) w.ahead_of.ensures)
+          ap rest (ap (map cell_act) w.cells-is ∙ w.reduce_by.ensures ∙ ap (λ s. besides (reduce_by k) s acts) (w.lookahead_of-ahead.ensures ∙ ap (λ q. lookahead_of (g.L.Lookahead.policy c.args.self.now.look.now (relations_in c.args.self.now) q) k) w.rows-then-is_complete.ensures.value))
           ∙ sym (reduced_more look p n k true acts low (sym same ∙ w.if-is_complete.true)) ∙ c.loop-number.invariant
       | else-is_complete w ↦
           ap rest (ap (map cell_act) w.cells-is) ∙ sym (reduced_more look p n k false acts low (sym same ∙ w.if-is_complete.false)) ∙ c.loop-number.invariant
@@ -42,7 +42,7 @@ loop-number-preserved g c =
 
 pub returns : goal.returns
 returns g c =
-    let rs = c.args.self.now.rules.now in
+    let rs = c.args.self.now.sets.now.rules.now in
     let base = rows_for rs c.args.closed.now.rows in
     let look : Look = g.L.Lookahead.policy c.args.self.now.look.now (relations_in c.args.self.now) base in
     let p = is_complete (lines_of rs) base in
