@@ -1,6 +1,6 @@
 // Small books: corners, followers, useless codes, reads, and lookaheads under each policy.
 use crate::items::{DOTS, DotRow, is_complete, left_of, reads, right_of};
-use crate::lookaheads::{LeftmostFollow, Lookahead, Slr, SlrIfAdequate};
+use crate::lookaheads::{LSLR, LeftmostFollow, Lookahead, Slr};
 use crate::relations::{End, RelationSets, corners, related};
 use crate::sets::{SYMBOLS, SymbolSet, contains, insert};
 use crate::useful::useless;
@@ -117,17 +117,13 @@ fn items_by_number(rt: HostRuntime) -> Result<(), Fail> {
 #[test]
 fn lookaheads_of_two_lists(rt: HostRuntime) -> Result<(), Fail> {
     let book = two_lists()?;
-    let rules = book.rules();
-    let sets = RelationSets::of(rules);
-    let eased = SlrIfAdequate {
-        below: LeftmostFollow,
-    };
+    let sets = RelationSets::of(book.rules());
     let both = after_a_one();
     has_just(&rt, &Slr.lookahead(&sets, &both, 7), &[2, 44, 1]);
     has_just(&rt, &LeftmostFollow.lookahead(&sets, &both, 7), &[2, 44]);
-    has_just(&rt, &eased.lookahead(&sets, &both, 7), &[2, 44]);
+    has_just(&rt, &LSLR.lookahead(&sets, &both, 7), &[2, 44]);
     let mut one = both;
     one[8][1] = false;
-    has_just(&rt, &eased.lookahead(&sets, &one, 7), &[2, 44, 1]);
+    has_just(&rt, &LSLR.lookahead(&sets, &one, 7), &[2, 44, 1]);
     Ok(())
 }
