@@ -18,7 +18,6 @@ pub(crate) fn digits(n: usize) -> usize
 impl<'a> Writer<'a> {
     ghost use Rattle.report.specs.Writers.{HasRoom, Writes};
 
-    // Stays a writer of our own: std's clauses of `write!` say what stands there on an Ok, and never that it is Ok.
     pub(crate) fn new(out: &'a mut [u8]) -> Writer<'a>
         ensures same { result.out.ghost_name ≡ out.entry.ghost_name }
         ensures buffer { result.out.now ≡ out.old }
@@ -46,6 +45,7 @@ impl<'a> Writer<'a> {
     }
 
     // Writes a number.
+    // Stays written digit by digit: std's clauses of `write!` say what was written on an Ok, and never that it is Ok.
     pub(crate) fn put_number(&mut self, n: usize)
         requires { HasRoom (decimal n) self.old }
         ensures { Writes (decimal n) self.old self.new }
