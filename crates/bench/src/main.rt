@@ -40,6 +40,7 @@ fn time(rt: &HostRuntime, name: &str, book: &Book, times: usize) -> io::Result<(
 }
 
 // Six times the same word, for 33 words: 200 states.
+// Stays beside its twin in `lines`, which enters the same rules on a card: a trait over both takes more lines than the two loops.
 fn wide() -> Book {
     let mut book = Book::new();
     for k in 1..34u8 {

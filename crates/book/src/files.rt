@@ -198,6 +198,7 @@ impl Book {
         requires { rules_of self.old ≡ [] }
         ensures { said_of (λ _. rules_of self.new) load_refusal result ≡ load_says bytes.now }
     {
+        // Stays by place: a refusal names the place of its record, and the width of a record is known once it is read.
         let mut place = 0;
         while let Some(width) = self.load_record(&bytes[place..], place)? {
             place += width;

@@ -12,6 +12,7 @@ mod sides;
 pub const LONGEST_RIGHT: usize = 6;
 
 // The places past the right side are 0, so that equal fields are equal sides.
+// Stays an array with a length: a rule has fixed memory.
 #[derive(Clone, Copy, PartialEq, Eq, Debug)]
 pub struct Rule {
     left: u8,

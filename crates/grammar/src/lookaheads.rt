@@ -51,6 +51,7 @@ impl Lookahead for Slr {
 }
 
 // The leftmost followers of the rule's left side.
+// Stays a type beside `Slr`: each is one line over a table of its own, and the laws name both.
 #[derive(Clone, Copy)]
 pub struct LeftmostFollow;
 

@@ -62,6 +62,7 @@ impl From<TapeError> for Refusal {
 }
 
 impl Refusal {
+    // Stays a match of numbers: it is the one place of this program that tells them.
     fn number(&self) -> u8 {
         match self {
             Refusal::Enter(EnterError::Full) | Refusal::Build(BuildError::Rules) => 1,

@@ -12,6 +12,7 @@ pub struct Step {
 #[derive(Clone, Copy, PartialEq, Debug)]
 pub enum Verdict {
     Accepted,
+    // Stays a number, as in what a source answers.
     Fault { number: u8, place: usize },
     TooLong,
     NoTree,

@@ -4,6 +4,7 @@ ghost use Rattle.std.specs.Prelude.{◌≡◌, ◌<◌, [], ◌∷◌, length, d
 use std::marker::Model;
 
 // The first so many places of the array are the stack. What the others hold doesn't matter.
+// Stays an array with a count: a read has fixed memory.
 #[derive(Drop)]
 pub(crate) struct Stack<T, const N: usize> {
     held: [T; N],

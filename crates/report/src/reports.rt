@@ -41,6 +41,7 @@ fn report_refused(
 fn report_outcome(outcome: &Outcome, list: &[Step], out: &mut [u8]) -> Result<usize, ReportError>
     ensures { Reports (outcome_text outcome.now list.now) (read_room (length list.now)) out.old out.new result }
 {
+    // Stays with its numbers: each is told in this one place, beside the last field of its line.
     match outcome.verdict {
         Verdict::Accepted => report_accepted(outcome.steps, outcome.words, list, out),
         Verdict::Fault { number, place: _ } => report_refused(outcome, 11, number as usize, out),
@@ -65,6 +66,7 @@ pub fn report_read(
 }
 
 // The number of an enter's refusal.
+// Stays a match in a function: a `From` needs one of its two types in this crate, and has neither.
 fn enter_number(error: EnterError) -> usize
     ensures { result ≡ number_of (enter_refusal error) }
 {

@@ -48,6 +48,7 @@ pub enum TapeError {
     Long,
 }
 
+// Stays a slice with a place, as a text does.
 #[derive(Drop)]
 pub struct Tape<'a> {
     bytes: &'a [u8],

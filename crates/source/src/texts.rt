@@ -23,6 +23,7 @@ pub enum TextError {
     Table,
 }
 
+// Stays a slice with a place: each answer names the place, which an iterator over the bytes would not tell.
 #[derive(Drop)]
 pub struct Text<'a, 'b> {
     bytes: &'a [u8],

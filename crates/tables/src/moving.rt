@@ -12,6 +12,7 @@ use grammar::items::{DOTS, DotRow, right_of};
 pub const MOST_NUMBERED: usize = 101;
 
 // A row for each numbered rule; rows past the last rule have no meaning.
+// Stays an array without a length: memory is fixed, and the rules of a build say how many rows count in all its sets.
 #[derive(Clone, Copy)]
 pub struct ItemSet {
     pub(crate) rows: [DotRow; MOST_NUMBERED],
