@@ -1,7 +1,7 @@
 -- Kernels that are found, turn by turn.
 use Rattle.std.proofs.Common.{◌≡◌, ℕ, zero, suc, ◌+◌, ◌-◌, ◌<◌, ◌≤◌, Bool, true, false, ltb, List, [], ◌∷◌, ◌++◌, length, get_or, take, Ok, Err, Result, is_err, map, sym, refl, ap, ◌∙◌, arith, length-take}
 use lib.ListN.{length-map}
-use Rattle.std.proofs.lemmas.List.{length_push, get_or-map, get_or-take}
+use Rattle.std.proofs.lemmas.List.{length_push, get_or-map}
 use Rattle.std.proofs.lemmas.Bool.{lt-ltb, le-ltb}
 use Rattle.book.specs.Rules.{Production}
 use Rattle.grammar.specs.Sets.{Flags, has, symbol_count, codes, up_from}
@@ -18,10 +18,6 @@ use Rattle.tables.specs.Kept.{kernels_in, Found}
 module _ (n : ℕ) (ks : Kernels) (wide : ks.count ≤ length ks.sets) where
   pub kernels_long : length (kernels_in n ks) ≡ ks.count
   kernels_long = simp (length-map, length-take) (omega arith)
-
-  pub kernels_at : (i : ℕ) (d : ItemSet) → i < ks.count → get_or (kernels_in n ks) i [] ≡ take n (get_or ks.sets i d).rows
-  kernels_at i d h =
-      get_or-map (λ s. take n s.rows) (take ks.count ks.sets) i d [] (simp length-take (omega arith)) ∙ ap (λ (s : ItemSet). take n s.rows) (get_or-take ks.count ks.sets i d h)
 
 -- a kernel that is looked up in the code's list
 module _ (n : ℕ) (ks : Kernels) (found : List ItemSet) (is : found ≡ take ks.count ks.sets) where
