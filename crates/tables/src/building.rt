@@ -20,7 +20,8 @@ use grammar::relations::RelationSets;
 use grammar::sets::SYMBOLS;
 use grammar::useful::useless;
 
-// How many rows belong to a state. Stays beside the rows: their memory is fixed, and a later guard is to hold the count alone.
+// How many rows belong to a state.
+// Stays beside the rows: their memory is fixed, and a later guard is to hold the count alone.
 #[derive(Clone, Copy)]
 pub struct Size {
     states: usize,

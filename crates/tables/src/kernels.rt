@@ -13,7 +13,8 @@ pub const MOST_STATES: usize = 200;
 #[derive(Clone, Copy, PartialEq, Debug)]
 pub struct Full;
 
-// The kernels that are found so far. Stays an array with a count: a build has fixed memory.
+// The kernels that are found so far.
+// Stays an array with a count: a build has fixed memory.
 #[derive(Drop)]
 pub struct Kernels {
     sets: [ItemSet; MOST_STATES],
