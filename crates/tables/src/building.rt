@@ -27,7 +27,6 @@ pub struct Size {
     states: usize,
 }
 
-// Stays an array with a count beside it: memory is fixed, and a later guard is to hold the count alone.
 #[derive(Drop)]
 pub struct Tables {
     rows: [Row; MOST_STATES],
