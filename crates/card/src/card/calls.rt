@@ -8,11 +8,7 @@ ghost use Rattle.book.specs.Rules.{◌⟶◌, enter_says, strike_says};
 ghost use Rattle.grammar.specs.Build.{build_says};
 ghost use Rattle.grammar.specs.Laws.{Lawful};
 ghost use Rattle.tables.specs.Built.{table_of, build_refusal, fill_says};
-ghost use Rattle.reading.specs.Tables.{next_in, action_in};
-ghost use Rattle.reading.specs.Reading.{codes_of, read_says};
-ghost use Rattle.reading.specs.Promise.{Kept};
-ghost use Rattle.reading.specs.Building.{Belonging};
-ghost use Rattle.reading.specs.Told.{answer_of, after_words};
+ghost use Rattle.reading.specs.Told.{after_words};
 ghost use Rattle.card.specs.Models.{fresh};
 ghost use Rattle.card.specs.Cards.{model_of};
 ghost use Rattle.card.specs.Histories.{calls_load, calls_enter, calls_strike, calls_build, calls_read, step_of, Serves, Promised, Stood};
@@ -30,6 +26,15 @@ use reading::piles::Stacks;
 use reading::runs::run;
 use source::sources::Source;
 use tables::building::{BuildError, Tables};
+
+// The tables of a book, by a lookahead policy.
+fn tables_of<L: Lookahead>(book: &Book, look: &L) -> Result<Tables, BuildError>
+    ensures { said_of table_of build_refusal result ≡ fill_says (L.Lookahead.policy look.now) (rules_of book.now) }
+{
+    let mut tables = Tables::new();
+    tables.fill(book.rules(), look)?;
+    Ok(tables)
+}
 
 impl Card {
     // No rules, not built.
@@ -101,9 +106,7 @@ impl Card {
         ensures service { (law : Lawful (L.Lookahead.policy look.now)) → Serves (calls_build (L.Lookahead.policy look.now) law) (model_of self.old) (model_of self.new) }
     {
         self.tables = None; // so it stays if the build is refused
-        let mut tables = Tables::new();
-        tables.fill(self.book.rules(), look)?;
-        self.tables = Some(tables);
+        self.tables = Some(tables_of(&self.book, look)?);
         Ok(())
     }
 
