@@ -4,7 +4,7 @@ ghost use Rattle.book.specs.Answers.{said};
 ghost use Rattle.book.specs.Held.{production_of, productions_of, rules_of};
 ghost use Rattle.book.specs.Refusals.{enter_refusal, strike_refusal};
 ghost use Rattle.book.specs.Symbols.{most_rules};
-ghost use Rattle.book.specs.Rules.{◌⟶◌, holds, enter_says, entered, strike_says, struck, is_well_formed, Keeps, TestIsExact};
+ghost use Rattle.book.specs.Rules.{◌⟶◌, enter_says, entered, strike_says, struck, is_well_formed, Keeps, TestIsExact};
 
 use crate::rules::{EnterError, Rule};
 use std::error::Error;

@@ -1,9 +1,9 @@
 // Book files: a run of records, one byte of kind first, then a body whose length the kind fixes.
 // Kinds 1 to 6 are rules with that many right symbols; kind 7 closes the file with the number of rules.
-ghost use Rattle.std.specs.Prelude.{◌≡◌, ◌+◌, ◌-◌, ◌^◌, ◌<◌, ◌≤◌, true, [], ◌∷◌, ◌++◌, length, take, drop, IfSome, IfOk, Some, None, OnErr, OnOk};
+ghost use Rattle.std.specs.Prelude.{◌≡◌, ◌+◌, ◌-◌, ◌^◌, ◌<◌, ◌≤◌, true, [], ◌++◌, length, take, drop, IfSome, IfOk, Some, None, OnErr, OnOk};
 ghost use Rattle.book.specs.Answers.{granted, and_then, said, said_of};
 ghost use Rattle.book.specs.Files.{record_of, file_of, save_says, saved_in, body_says, rules_after, closing_says, record_says, record_leaves, width, load_says, loaded, LoadsBack, IsFileOf};
-ghost use Rattle.book.specs.Held.{production_of, productions_of, rules_of};
+ghost use Rattle.book.specs.Held.{production_of, rules_of};
 ghost use Rattle.book.specs.Kinds.{Decodes};
 ghost use Rattle.book.specs.Refusals.{save_refusal, load_refusal};
 ghost use Rattle.book.specs.Rules.{is_well_formed, Keeps};

@@ -1,5 +1,5 @@
 // The report of an accepted read: its first line, and a line for each step.
-ghost use Rattle.std.specs.Prelude.{◌≡◌, ◌+◌, ◌*◌, ◌≤◌, true, length, take, is_ok, nat_le};
+ghost use Rattle.std.specs.Prelude.{◌≡◌, ◌*◌, ◌≤◌, true, length, take, nat_le};
 ghost use Rattle.std.specs.List.{flat_map};
 ghost use Rattle.reading.specs.Told.{written_in};
 ghost use Rattle.report.specs.Buffers.{Reports, step_room, read_room};

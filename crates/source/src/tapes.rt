@@ -1,5 +1,5 @@
 // A tape: records of kind 8, a word with its code, until one of kind 9, the end.
-ghost use Rattle.std.specs.Prelude.{◌≡◌, IfOk, IfErr, MatchResult};
+ghost use Rattle.std.specs.Prelude.{◌≡◌, IfOk, IfErr};
 ghost use Rattle.book.specs.Answers.{said_of};
 ghost use Rattle.source.specs.Faults.{fault_number};
 ghost use Rattle.source.specs.Kinds.{Decodes};

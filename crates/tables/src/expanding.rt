@@ -1,5 +1,5 @@
 // Expansion: rules that complete rules of a closed set call for are put in.
-ghost use Rattle.std.specs.Prelude.{◌≡◌, [], ◌∷◌, length};
+ghost use Rattle.std.specs.Prelude.{◌≡◌, [], ◌∷◌};
 ghost use Rattle.grammar.specs.Lookahead.{leads, expand_for};
 ghost use Rattle.grammar.specs.Relating.{related_by};
 ghost use Rattle.grammar.specs.Sets.{has};

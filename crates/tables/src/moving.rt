@@ -1,5 +1,5 @@
 // The next kernel: dots moved over a symbol.
-ghost use Rattle.std.specs.Prelude.{◌≡◌, ◌+◌, ◌≤◌, false, ◌∷◌, length, take};
+ghost use Rattle.std.specs.Prelude.{◌≡◌, ◌+◌, false, ◌∷◌, length, take};
 ghost use Rattle.book.specs.Symbols.{longest_right};
 ghost use Rattle.grammar.specs.Items.{before, onward};
 ghost use Rattle.tables.specs.Kept.{rules_in, lines_of, rows_for};

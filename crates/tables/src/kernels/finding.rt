@@ -1,6 +1,5 @@
 // Finding kernels: each is put behind those that are found, unless it is among them.
-ghost use Rattle.std.specs.Prelude.{◌≡◌, ℕ, ◌+◌, ◌<◌, ◌≤◌, [], ◌∷◌, length, take, slice_get};
-ghost use Rattle.std.specs.Option.{option_copied};
+ghost use Rattle.std.specs.Prelude.{◌≡◌, ℕ, ◌<◌, ◌≤◌, [], ◌∷◌, length, take};
 ghost use Rattle.grammar.specs.States.{same_items, number_of, with_kernel};
 ghost use Rattle.tables.specs.Kept.{most_numbered, kernels_in, Found};
 
