@@ -10,7 +10,7 @@ use tables::building::Tables;
 
 // How many actions there are in a row.
 fn actions_in(row: &Row) -> usize {
-    (0..81u8).filter(|x| row.at(*x).is_some()).count()
+    row.actions.iter().filter(|action| action.is_some()).count()
 }
 
 // What a build of the book gives.
@@ -40,7 +40,7 @@ fn time(rt: &HostRuntime, name: &str, book: &Book, times: usize) -> io::Result<(
 }
 
 // Six times the same word, for 33 words: 200 states.
-// Stays beside its twin in `lines`, which enters the same rules on a card: a trait over both takes more lines than the two loops.
+// Stays beside its twin in `lines`, which enters the same rules on a card: the programs share no crate but the engine's own.
 fn wide() -> Book {
     let mut book = Book::new();
     for k in 1..34u8 {

@@ -31,6 +31,20 @@ pub enum StrikeError {
     Missing,
 }
 
+// The number of the refusal.
+impl From<StrikeError> for u8 {
+    ghost use Rattle.std.specs.Prelude.{◌≡◌};
+    ghost use Rattle.book.specs.Refusals.{strike_refusal, number_of};
+
+    ghost from_gives = { λ error number. number ≡ number_of (strike_refusal error) };
+
+    fn from(error: StrikeError) -> u8 {
+        match error {
+            StrikeError::Missing => 6,
+        }
+    }
+}
+
 impl fmt::Display for StrikeError {
     ghost use Rattle.std.specs.Prelude.{Some};
     ghost use Rattle.book.specs.Refusals.{strike_refusal};

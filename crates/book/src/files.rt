@@ -48,6 +48,24 @@ pub enum LoadError {
     Trailing(usize),
 }
 
+// The number of the refusal.
+impl From<LoadError> for u8 {
+    ghost use Rattle.std.specs.Prelude.{◌≡◌};
+    ghost use Rattle.book.specs.Refusals.{load_refusal, number_of};
+
+    ghost from_gives = { λ error number. number ≡ number_of (load_refusal error) };
+
+    fn from(error: LoadError) -> u8 {
+        match error {
+            LoadError::Kind(_) => 15,
+            LoadError::Ended(_) => 16,
+            LoadError::Enter(_, _) => 17,
+            LoadError::Count(_) => 18,
+            LoadError::Trailing(_) => 19,
+        }
+    }
+}
+
 impl fmt::Display for LoadError {
     ghost use Rattle.std.specs.Prelude.{Some};
     ghost use Rattle.book.specs.Texts.{load_text};
@@ -91,7 +109,7 @@ impl TryFrom<u8> for Kind {
 }
 
 // Writes bytes at a place, and answers the place past them.
-// Stays with the place beside the buffer: a writer that holds the `&mut` would owe what it writes back at each call.
+// Stays with the place beside the buffer: for two functions, a writer as in `report` is longer than what it saves.
 fn put(out: &mut [u8], at: usize, bytes: &[u8]) -> usize
     requires { at + length bytes.now ≤ length out.old }
     ensures next { result ≡ at + length bytes.now }
@@ -160,6 +178,7 @@ impl Book {
     }
 
     // The body of the closing record is the number of rules, and nothing follows it.
+    // Stays with the place beside the bytes: within a record the bytes get fewer, and the place is still that of the record.
     fn closes(&self, body: &[u8], place: usize) -> Result<(), LoadError>
         requires { place + length body.now < 2 ^ 64 - 1 }
         ensures { said_of (λ _. None) load_refusal result ≡ closing_says (rules_of self.now) place body.now }

@@ -33,6 +33,24 @@ pub enum EnterError {
     Duplicate,
 }
 
+// The number of the refusal.
+impl From<EnterError> for u8 {
+    ghost use Rattle.std.specs.Prelude.{◌≡◌};
+    ghost use Rattle.book.specs.Refusals.{enter_refusal, number_of};
+
+    ghost from_gives = { λ error number. number ≡ number_of (enter_refusal error) };
+
+    fn from(error: EnterError) -> u8 {
+        match error {
+            EnterError::Full => 1,
+            EnterError::Left => 2,
+            EnterError::Length => 3,
+            EnterError::Code(_) => 4,
+            EnterError::Duplicate => 5,
+        }
+    }
+}
+
 impl fmt::Display for EnterError {
     ghost use Rattle.std.specs.Prelude.{Some};
     ghost use Rattle.book.specs.Refusals.{enter_refusal};

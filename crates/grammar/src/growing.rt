@@ -29,6 +29,7 @@ fn round<G: Growth>(growth: &G, rules: &[Rule], set: &mut SymbolSet) -> bool
     changed
 }
 
+// Stays beside the rounds that close an item set: one function for both would take the set, the step and two laws to save a loop of four lines.
 // Rounds until nothing changes: each but the last adds a symbol, so that as many as there are symbols are enough.
 pub fn saturate<G: Growth>(growth: &G, rules: &[Rule], set: &mut SymbolSet)
     ensures { set.new ≡ saturate (G.Growth.grown growth.now) (productions_of rules.now) set.old }

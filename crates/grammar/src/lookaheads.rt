@@ -77,7 +77,7 @@ fn is_conflicting(sets: &RelationSets, closed: &[DotRow]) -> bool
     ensures { result ≡ slr_conflicting (related_by sets.now) closed.now }
 {
     let mut seen = reads(sets.rules, closed);
-    // Stays a range: the number itself is asked about, from the outer rule's 0 on, and nothing is indexed.
+    // Stays a range: from the outer rule's 0 on, the number is what is asked about.
     for number in 0..=sets.rules.len() {
         if is_complete(sets.rules, closed, number) {
             let lookahead = lookahead_of(&Slr, sets, closed, number);

@@ -74,7 +74,7 @@ fn corners_of(rules: &[Rule], end: End, symbol: u8) -> SymbolSet
 }
 
 // The corners of every symbol.
-// Stays a loop, as for leftmost followers: `array::from_fn` wants the clauses of its closure written out, which is longer.
+// Stays a loop, as for leftmost followers: of a closure that calls by what it captures `array::from_fn` knows no answer, but by clauses written on it, which is longer.
 pub fn corners(rules: &[Rule], end: End) -> SymbolTable
     ensures equal { result ≡ corners (end_of end) (productions_of rules.now) }
     ensures tell { Tells result (λ x z. Corner (end_of end) (productions_of rules.now) z x) }

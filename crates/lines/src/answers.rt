@@ -3,6 +3,7 @@ use crate::refusals::Refusal;
 use reading::outcomes::{Outcome, Step, Verdict};
 use std::fmt;
 
+// Stays an enum: it prints itself, as a `Result` of the library could not.
 #[derive(Clone, Copy)]
 pub(crate) enum Answer {
     Granted,

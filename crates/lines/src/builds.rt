@@ -2,11 +2,8 @@
 use crate::answers::Answer;
 use card::card::Card;
 use grammar::lookaheads::LSLR;
-
-// How many states there are at the most, and actions in a row.
-const MOST_STATES: usize = 200;
-
-const ACTIONS: usize = 81;
+use grammar::sets::SYMBOLS;
+use tables::kernels::MOST_STATES;
 
 // Builds a card under LSLR.
 pub(crate) fn build(card: &mut Card) -> Answer {
@@ -23,7 +20,7 @@ fn rows(card: &Card, row: &mut [u16]) -> usize {
 // A build's answer, with how many states there are.
 pub(crate) fn states(card: &Card, answer: Answer) -> Answer {
     match answer {
-        Answer::Granted => Answer::States(rows(card, &mut [0; ACTIONS])),
+        Answer::Granted => Answer::States(rows(card, &mut [0; SYMBOLS])),
         refused => refused,
     }
 }

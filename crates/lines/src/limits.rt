@@ -1,7 +1,7 @@
 // Reads and builds at their limits.
 use crate::books::{LEFT_LISTS, ONE_LIST};
 use crate::builds::{build, states};
-use crate::reads::{NO_STEP, put, read_tape, read_text};
+use crate::reads::{put, read_tape, read_text};
 use card::card::Card;
 use reading::outcomes::Step;
 use std::io;
@@ -17,7 +17,7 @@ fn read_ones(rt: &HostRuntime, card: &mut Card, ones: &[u8], list: &mut [Step]) 
 fn read_short(rt: &HostRuntime, card: &mut Card, list: &mut [Step]) -> io::Result<()> {
     let none = read_text(card, &[], list);
     println!(rt; "no words: {none}")?;
-    let mut four = [NO_STEP; 4];
+    let mut four = [Step::default(); 4];
     let full = read_text(card, &[1, 1, 2], &mut four);
     let steps = full.steps(&four);
     println!(rt; "1 1 2 into four places: {full}{steps}")?;
@@ -27,7 +27,7 @@ fn read_short(rt: &HostRuntime, card: &mut Card, list: &mut [Step]) -> io::Resul
     println!(rt; "tape 8 1 8 50 9: {fault}")
 }
 
-// Six times the same word, for 33 words. Stays beside its twin in `bench`, which enters them in a book.
+// Six times the same word, for 33 words. Stays beside its twin in `bench`, which enters them in a book: the programs share no crate but the engine's own.
 fn enter_wide(card: &mut Card) {
     for k in 1..34u8 {
         let _ = card.enter(41, &[k; 6]);
@@ -47,7 +47,7 @@ fn build_wide(rt: &HostRuntime) -> io::Result<()> {
 
 pub(crate) fn limits(rt: &HostRuntime) -> io::Result<()> {
     let mut card = Card::new();
-    let mut list = [NO_STEP; 1100];
+    let mut list = [Step::default(); 1100];
     let unbuilt = read_text(&mut card, &[1], &mut list);
     println!(rt; "not built: {unbuilt}")?;
     if put(rt, &mut card, ONE_LIST)? {

@@ -11,13 +11,6 @@ use source::tapes::Tape;
 use source::texts::{Text, code_letters};
 use std::io;
 
-// A place of a list that nothing was written to.
-pub(crate) const NO_STEP: Step = Step {
-    rule: 0,
-    first: 0,
-    width: 0,
-};
-
 // Reads a source, if it was made.
 fn read<S: Source + Drop, E: Into<Refusal>>(
     card: &mut Card,
@@ -101,5 +94,5 @@ fn read_books(rt: &HostRuntime, card: &mut Card, list: &mut [Step]) -> io::Resul
 
 // The lines of each book that builds, all on one card.
 pub(crate) fn reads(rt: &HostRuntime) -> io::Result<()> {
-    read_books(rt, &mut Card::new(), &mut [NO_STEP; 100])
+    read_books(rt, &mut Card::new(), &mut [Step::default(); 100])
 }

@@ -62,26 +62,15 @@ impl From<TapeError> for Refusal {
 }
 
 impl Refusal {
-    // Stays a match of numbers: it is the one place of this program that tells them.
     fn number(&self) -> u8 {
-        match self {
-            Refusal::Enter(EnterError::Full) | Refusal::Build(BuildError::Rules) => 1,
-            Refusal::Enter(EnterError::Left) => 2,
-            Refusal::Enter(EnterError::Length) => 3,
-            Refusal::Enter(EnterError::Code(_)) => 4,
-            Refusal::Enter(EnterError::Duplicate) => 5,
-            Refusal::Strike(StrikeError::Missing) => 6,
-            Refusal::Build(BuildError::Useless(_)) => 7,
-            Refusal::Build(BuildError::States) => 8,
-            Refusal::Build(BuildError::Conflict(_, _)) => 9,
-            Refusal::Read(ReadError::NotBuilt) => 10,
-            Refusal::Load(LoadError::Kind(_)) => 15,
-            Refusal::Load(LoadError::Ended(_)) => 16,
-            Refusal::Load(LoadError::Enter(_, _)) => 17,
-            Refusal::Load(LoadError::Count(_)) => 18,
-            Refusal::Load(LoadError::Trailing(_)) => 19,
-            Refusal::Text(TextError::Long) | Refusal::Tape(TapeError::Long) => 22,
-            Refusal::Text(TextError::Table) => 23,
+        match *self {
+            Refusal::Enter(error) => error.into(),
+            Refusal::Strike(error) => error.into(),
+            Refusal::Build(error) => error.into(),
+            Refusal::Read(error) => error.into(),
+            Refusal::Load(error) => error.into(),
+            Refusal::Text(error) => error.into(),
+            Refusal::Tape(error) => error.into(),
         }
     }
 }

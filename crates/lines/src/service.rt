@@ -2,7 +2,7 @@
 use crate::answers::{Answer, Count};
 use crate::books::{LEFT_LISTS, bytes_of};
 use crate::builds::build;
-use crate::reads::{NO_STEP, read_text};
+use crate::reads::read_text;
 use card::card::Card;
 use reading::outcomes::Step;
 use std::{fmt, io};
@@ -122,7 +122,7 @@ fn serve(rt: &HostRuntime, card: &mut Card, calls: &[Call], list: &mut [Step]) -
 
 pub(crate) fn service(rt: &HostRuntime) -> io::Result<()> {
     let mut card = Card::new();
-    let mut list = [NO_STEP; 10];
+    let mut list = [Step::default(); 10];
     serve(rt, &mut card, BUILT, &mut list)?;
     serve(rt, &mut card, STRUCK, &mut list)?;
     serve(rt, &mut card, CHANGED, &mut list)

@@ -84,11 +84,7 @@ fn card_of(file: &[u8]) -> Option<Card> {
 
 // Reads the line with this last word, as a tape and as a text, by the book of a file.
 fn read_line(rt: &HostRuntime, name: &str, file: &[u8], last: u8, timed: bool) -> io::Result<()> {
-    let mut list = [Step {
-        rule: 0,
-        first: 0,
-        width: 0,
-    }; PLACES];
+    let mut list = [Step::default(); PLACES];
     let Some(mut card) = card_of(file) else {
         return println!(rt; "{name}: not built");
     };

@@ -2,13 +2,14 @@
 ghost use Rattle.std.specs.Prelude.{◌≡◌};
 
 // What a read writes for each reduce: the number of the rule, how many words stand left of its words, and how many they are.
-#[derive(Clone, Copy, PartialEq, Debug)]
+#[derive(Clone, Copy, PartialEq, Debug, Default)]
 pub struct Step {
     pub rule: u8,
     pub first: usize,
     pub width: usize,
 }
 
+// Stays one enum: as a `Result`, a turn would answer one within an `Option`, and the same counts stand beside it, granted or not.
 #[derive(Clone, Copy, PartialEq, Debug)]
 pub enum Verdict {
     Accepted,

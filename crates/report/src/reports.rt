@@ -1,7 +1,7 @@
 // The reports: each answers how many bytes it wrote.
 ghost use Rattle.std.specs.Prelude.{◌≡◌, ℕ, ◌≤◌, List, length, codes};
 ghost use Rattle.book.specs.Answers.{Refusal};
-ghost use Rattle.book.specs.Refusals.{enter_refusal, number_of, load_refusal};
+ghost use Rattle.book.specs.Refusals.{load_refusal};
 ghost use Rattle.source.specs.Refusals.{tape_refusal};
 ghost use Rattle.tables.specs.Built.{build_refusal};
 ghost use Rattle.report.specs.Buffers.{Reports, line_room, read_room};
@@ -41,7 +41,7 @@ fn report_refused(
 fn report_outcome(outcome: &Outcome, list: &[Step], out: &mut [u8]) -> Result<usize, ReportError>
     ensures { Reports (outcome_text outcome.now list.now) (read_room (length list.now)) out.old out.new result }
 {
-    // Stays with its numbers: each is told in this one place, beside the last field of its line.
+    // Stays with its numbers: a verdict that is no refusal has none, and each is told here alone, beside the last field of its line.
     match outcome.verdict {
         Verdict::Accepted => report_accepted(outcome.steps, outcome.words, list, out),
         Verdict::Fault { number, place: _ } => report_refused(outcome, 11, number as usize, out),
@@ -61,21 +61,7 @@ pub fn report_read(
 {
     match outcome {
         Ok(o) => report_outcome(o, list, out),
-        Err(ReadError::NotBuilt) => report_line(b"refused", &[10, 0, 0, 0, 0], out),
-    }
-}
-
-// The number of an enter's refusal.
-// Stays a match in a function: a `From` needs one of its two types in this crate, and has neither.
-fn enter_number(error: EnterError) -> usize
-    ensures { result ≡ number_of (enter_refusal error) }
-{
-    match error {
-        EnterError::Full => 1,
-        EnterError::Left => 2,
-        EnterError::Length => 3,
-        EnterError::Code(_) => 4,
-        EnterError::Duplicate => 5,
+        Err(error) => report_line(b"refused", &[u8::from(*error) as usize, 0, 0, 0, 0], out),
     }
 }
 
@@ -104,12 +90,13 @@ impl Refused for LoadError {
     }
 
     fn fields(&self) -> [usize; 3] {
+        let number = u8::from(*self) as usize;
         match *self {
-            LoadError::Kind(place) => [15, place, 0],
-            LoadError::Ended(place) => [16, place, 0],
-            LoadError::Enter(place, cause) => [17, place, enter_number(cause)],
-            LoadError::Count(place) => [18, place, 0],
-            LoadError::Trailing(place) => [19, place, 0],
+            LoadError::Kind(place)
+            | LoadError::Ended(place)
+            | LoadError::Count(place)
+            | LoadError::Trailing(place) => [number, place, 0],
+            LoadError::Enter(place, cause) => [number, place, u8::from(cause) as usize],
         }
     }
 }
@@ -125,11 +112,11 @@ impl Refused for BuildError {
     }
 
     fn fields(&self) -> [usize; 3] {
+        let number = u8::from(*self) as usize;
         match *self {
-            BuildError::Rules => [1, 0, 0],
-            BuildError::Useless(code) => [7, code as usize, 0],
-            BuildError::States => [8, 0, 0],
-            BuildError::Conflict(state, symbol) => [9, state as usize, symbol as usize],
+            BuildError::Rules | BuildError::States => [number, 0, 0],
+            BuildError::Useless(code) => [number, code as usize, 0],
+            BuildError::Conflict(state, symbol) => [number, state as usize, symbol as usize],
         }
     }
 }
@@ -146,7 +133,5 @@ pub fn report_error<E: Refused>(error: &E, out: &mut [u8]) -> Result<usize, Repo
 pub fn report_tape(error: &TapeError, out: &mut [u8]) -> Result<usize, ReportError>
     ensures { Reports (tape_text (tape_refusal error.now)) line_room out.old out.new result }
 {
-    match error {
-        TapeError::Long => report_line(b"tape", &[22], out),
-    }
+    report_line(b"tape", &[u8::from(*error) as usize], out)
 }

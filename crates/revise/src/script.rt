@@ -22,7 +22,7 @@ fn number(digits: &[u8], most: u16) -> Option<u16>
     }
     let mut value = 0;
     for byte in digits {
-        if *byte < b'0' || *byte > b'9' {
+        if !byte.is_ascii_digit() {
             return None;
         }
         let next = 10 * value + (*byte - b'0') as u32;

@@ -4,7 +4,7 @@ ghost use Rattle.source.specs.Streams.{Stream, drawn, remaining, all_terminals};
 ghost use Rattle.source.specs.Taking.{drawn_by};
 
 // What a take answers.
-// Stays one enum: three cases have no shape of Option or Result, and a `Result<Word, Ending>` would take two types more to say the same.
+// Stays one enum: each case has its place, the clean end too, so that a `Result` would take a type for words and one for endings to say the same.
 #[derive(Clone, Copy, PartialEq, Debug)]
 pub enum Taken {
     Word { code: u8, place: usize },

@@ -48,6 +48,21 @@ pub enum TapeError {
     Long,
 }
 
+// The number of the refusal.
+impl From<TapeError> for u8 {
+    ghost use Rattle.std.specs.Prelude.{◌≡◌};
+    ghost use Rattle.book.specs.Refusals.{number_of};
+    ghost use Rattle.source.specs.Refusals.{tape_refusal};
+
+    ghost from_gives = { λ error number. number ≡ number_of (tape_refusal error) };
+
+    fn from(error: TapeError) -> u8 {
+        match error {
+            TapeError::Long => 22,
+        }
+    }
+}
+
 // Stays a slice with a place, as a text does.
 #[derive(Drop)]
 pub struct Tape<'a> {

@@ -23,7 +23,23 @@ pub enum TextError {
     Table,
 }
 
-// Stays a slice with a place: each answer names the place, which an iterator over the bytes would not tell.
+// The number of the refusal.
+impl From<TextError> for u8 {
+    ghost use Rattle.std.specs.Prelude.{◌≡◌};
+    ghost use Rattle.book.specs.Refusals.{number_of};
+    ghost use Rattle.source.specs.Refusals.{text_refusal};
+
+    ghost from_gives = { λ error number. number ≡ number_of (text_refusal error) };
+
+    fn from(error: TextError) -> u8 {
+        match error {
+            TextError::Long => 22,
+            TextError::Table => 23,
+        }
+    }
+}
+
+// Stays a slice with a place: the ending names its place too, which an iterator at its end no longer tells.
 #[derive(Drop)]
 pub struct Text<'a, 'b> {
     bytes: &'a [u8],

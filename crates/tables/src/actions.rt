@@ -61,6 +61,7 @@ fn settle(cells: &Cells) -> Result<Row, u8>
     ensures { Settled (map cell_act cells.now) result }
 {
     let mut actions = [None; SYMBOLS];
+    // Stays an index into the other array, as in `reduce_by`.
     for (x, cell) in cells.iter().enumerate() {
         match cell {
             Ok(action) => actions[x] = *action,
@@ -74,6 +75,7 @@ fn settle(cells: &Cells) -> Result<Row, u8>
 fn reduce_by(cells: &mut Cells, ahead: &SymbolSet, number: u8)
     ensures { map cell_act cells.new ≡ besides (reduce_by number) ahead.now (map cell_act cells.old) }
 {
+    // Stays an index into the other array, as in the construction's `unite`: what a `zip` with `iter_mut` writes has no name in an invariant.
     for (x, cell) in cells.iter_mut().enumerate() {
         if ahead[x] {
             *cell = beside(*cell, number);
@@ -112,7 +114,7 @@ impl<L: Lookahead> Build<'_, L> {
         ensures { let base = rows_for (rules_in self.now) closed.now.rows in map cell_act cells.new ≡ reduced (L.Lookahead.policy self.now.look.now (relations_in self.now) base) (complete_in (lines_of (rules_in self.now)) base) (map cell_act cells.old) }
     {
         let n = self.sets.rules.len() + 1;
-        // Stays by number: what is asked and done goes by a rule's number, and no element is read.
+        // Stays by number: whether a rule is complete, what it looks at and what is done are asked by it.
         for number in 0..n {
             if is_complete(self.sets.rules, self.rows(closed), number) {
                 let ahead = lookahead_of(self.look, self.sets, self.rows(closed), number);

@@ -41,6 +41,24 @@ pub enum BuildError {
     Conflict(u8, u8),
 }
 
+// The number of the refusal.
+impl From<BuildError> for u8 {
+    ghost use Rattle.std.specs.Prelude.{◌≡◌};
+    ghost use Rattle.book.specs.Refusals.{number_of};
+    ghost use Rattle.tables.specs.Built.{build_refusal};
+
+    ghost from_gives = { λ error number. number ≡ number_of (build_refusal error) };
+
+    fn from(error: BuildError) -> u8 {
+        match error {
+            BuildError::Rules => 1,
+            BuildError::Useless(_) => 7,
+            BuildError::States => 8,
+            BuildError::Conflict(_, _) => 9,
+        }
+    }
+}
+
 #[derive(Clone, Copy, PartialEq, Debug)]
 pub enum RowError {
     Short,
@@ -86,7 +104,7 @@ impl Tables {
         Ok(())
     }
 
-    // The tables of rules of which these are the relations.
+    // The tables of what a build goes by.
     fn construct<L: Lookahead>(&mut self, build: &Build<L>) -> Result<(), BuildError>
         ensures { said_of (λ _. table_of self.new) build_refusal result ≡ built_by (L.Lookahead.policy build.now.look.now) (relations_in build.now) }
     {

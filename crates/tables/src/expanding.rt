@@ -40,7 +40,7 @@ impl<L: Lookahead> Build<'_, L> {
         ensures { items.new ≡ expand_for (relations_in self.now) (λ _. has ahead.now) (number ∷ []) items.old }
     {
         let left = left_of(self.sets.rules, number);
-        // Stays by number: no proof knows what is written through an adapter of `iter_mut`, as `skip(1)`.
+        // Stays by number, from 1: what is written through `iter_mut().skip(1)` is not known to the proof, and `enumerate` would test each number for the outer rule's.
         for q in 1..items.len() {
             if self.calls_for(left, ahead, q) {
                 items[q][0] = true;
@@ -54,7 +54,7 @@ impl<L: Lookahead> Build<'_, L> {
     {
         let n = self.sets.rules.len() + 1;
         let mut rows = closed.rows;
-        // Stays by number: what is asked and done goes by a rule's number, and no element is read.
+        // Stays by number: whether a rule is complete and what it looks at are asked by it.
         for number in 1..n {
             if is_complete(self.sets.rules, self.rows(closed), number) {
                 let ahead = self.look.lookahead(self.sets, self.rows(closed), number);

@@ -14,7 +14,7 @@ pub const MOST_STATES: usize = 200;
 pub struct Full;
 
 // The kernels that are found so far.
-// Stays an array with a count: a build has fixed memory.
+// Stays an array with a count, and no stack as a read has: a build has fixed memory, and finds and reads its kernels in order.
 #[derive(Drop)]
 pub struct Kernels {
     sets: [ItemSet; MOST_STATES],

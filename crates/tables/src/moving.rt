@@ -24,6 +24,7 @@ fn move_row(right: &[u8], row: &DotRow, symbol: u8) -> DotRow
 {
     let mut moved = [false; DOTS];
     let n = right.len().min(LONGEST_RIGHT);
+    // Stays an index: a dot is moved to the next place.
     for (d, word) in right[..n].iter().enumerate() {
         moved[d + 1] = row[d] & (*word == symbol);
     }

@@ -46,12 +46,7 @@ fn read_source<S: Source + Drop>(
 ) -> Result<usize, ReportError>
     ensures { Reports (told_source (model_of card.old) (S.Source.means source)) most_text out.old out.new result }
 {
-    let empty = Step {
-        rule: 0,
-        first: 0,
-        width: 0,
-    };
-    let mut list = [empty; PLACES];
+    let mut list = [Step::default(); PLACES];
     let mut words = Skip::new(source, SKIPPED).unwrap();
     read_into(card, &mut words, &mut list, out)
 }

@@ -8,6 +8,7 @@ use crate::moving::ItemSet;
 use grammar::items::DotRow;
 
 // Whether two item sets are the same, where row k is the likeliest to differ.
+// Stays beside `==`, for speed: see `number_of`.
 fn same_by(a: &[DotRow], b: &[DotRow], k: usize) -> bool
     requires rows { length a.now ≡ length b.now }
     requires row { k < length b.now }
