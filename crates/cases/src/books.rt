@@ -1,6 +1,7 @@
 // The books of the cases, as book files: for each rule the number of right symbols, the left code and the right codes; then 7 and the number of rules.
 
 // Each with its name.
+// Stays beside the same books in `lines`, where each has lines too: the programs share no crate but the engine's own.
 pub(crate) const BOOKS: &[(&str, &[u8])] = &[
     ("empty book", &[7, 0]),
     (

@@ -27,6 +27,7 @@ pub(crate) const WAITING: &str =
 
 pub(crate) const ONE_LIST: &str = "2 41 41 1  1 41 1  7 2";
 
+// Stays beside the same books in `cases`, which only builds them: the programs share no crate but the engine's own.
 const BOOKS: &[Known] = &[
     Known {
         name: "empty book",

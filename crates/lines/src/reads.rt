@@ -12,6 +12,7 @@ use source::texts::{Text, code_letters};
 use std::io;
 
 // Reads a source, if it was made.
+// Stays with the card and the list apart, here and below: the list is lent to a read alone, and its caller looks at it after.
 fn read<S: Source + Drop, E: Into<Refusal>>(
     card: &mut Card,
     source: Result<S, E>,

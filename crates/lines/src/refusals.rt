@@ -76,6 +76,7 @@ impl Refusal {
 }
 
 // The number, and what the refusal names.
+// Stays beside the same words for builds in `cases`: the programs share no crate but the engine's own.
 impl fmt::Display for Refusal {
     fn fmt<W: fmt::Write>(&self, f: &mut fmt::Formatter<W>) -> fmt::Result {
         let number = self.number();

@@ -83,6 +83,7 @@ fn card_of(file: &[u8]) -> Option<Card> {
 }
 
 // Reads the line with this last word, as a tape and as a text, by the book of a file.
+// Stays with a flag: given the step as `impl Fn`, the check of the calls came to no end in nine minutes.
 fn read_line(rt: &HostRuntime, name: &str, file: &[u8], last: u8, timed: bool) -> io::Result<()> {
     let mut list = [Step::default(); PLACES];
     let Some(mut card) = card_of(file) else {

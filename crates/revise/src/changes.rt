@@ -12,6 +12,7 @@ use book::books::Book;
 use std::alloc::{AllocError, Global};
 
 // Strikes a rule. Its sides are put down first, since they are gone after.
+// Stays with the allocator beside the book, here and below: what memory is asked of goes first, as in the library, and no fact binds the two.
 fn strike(heap: Global, book: &mut Book, number: usize) -> Result<String, AllocError>
     ensures rules { OnOk result (rules_of book.new ≡ struck (rules_of book.old) number) }
     ensures line { IfOk result (λ s. string_bytes s ≡ strike_line (rules_of book.old) number) }

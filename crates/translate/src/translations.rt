@@ -26,6 +26,7 @@ const PLACES: usize = 4000;
 const SKIPPED: u8 = 40;
 
 // Reads a source into the list, and tells of it.
+// Stays with the card and the buffer apart, here and below: no fact binds the two.
 fn read_into<S: Source>(
     card: &mut Card,
     source: &mut S,
