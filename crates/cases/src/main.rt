@@ -15,15 +15,16 @@ struct Built(Result<usize, BuildError>);
 
 impl fmt::Display for Built {
     fn fmt<W: fmt::Write>(&self, f: &mut fmt::Formatter<W>) -> fmt::Result {
-        match self.0 {
-            Ok(states) => write!(f, "{states} states"),
-            Err(BuildError::Rules) => write!(f, "refused 1"),
-            Err(BuildError::Useless(code)) => write!(f, "refused 7, code {code}"),
-            Err(BuildError::States) => write!(f, "refused 8"),
-            Err(BuildError::Conflict(state, symbol)) => write!(
-                f,
-                "refused 9, state {state}, symbol {symbol}"
-            ),
+        let error = match self.0 {
+            Ok(states) => return write!(f, "{states} states"),
+            Err(error) => error,
+        };
+        let number = u8::from(error);
+        write!(f, "refused {number}")?;
+        match error {
+            BuildError::Rules | BuildError::States => Ok(()),
+            BuildError::Useless(code) => write!(f, ", code {code}"),
+            BuildError::Conflict(state, symbol) => write!(f, ", state {state}, symbol {symbol}"),
         }
     }
 }

@@ -62,6 +62,7 @@ impl fmt::Display for Answer {
 fn show<W: fmt::Write>(outcome: &Outcome, f: &mut fmt::Formatter<W>) -> fmt::Result {
     let words = Count(outcome.words, "word");
     let steps = Count(outcome.steps, "step");
+    // Stays with its numbers, as in the crate `report`: a verdict that is no refusal has none.
     match outcome.verdict {
         Verdict::Accepted => write!(f, "accepted, {steps}"),
         Verdict::Fault { number, place } => write!(

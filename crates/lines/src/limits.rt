@@ -27,7 +27,8 @@ fn read_short(rt: &HostRuntime, card: &mut Card, list: &mut [Step]) -> io::Resul
     println!(rt; "tape 8 1 8 50 9: {fault}")
 }
 
-// Six times the same word, for 33 words. Stays beside its twin in `bench`, which enters them in a book: the programs share no crate but the engine's own.
+// Six times the same word, for 33 words.
+// Stays beside its twin in `bench`, which enters them in a book: the programs share no crate but the engine's own.
 fn enter_wide(card: &mut Card) {
     for k in 1..34u8 {
         let _ = card.enter(41, &[k; 6]);

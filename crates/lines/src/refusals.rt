@@ -19,6 +19,7 @@ pub(crate) enum Refusal {
     Tape(TapeError),
 }
 
+// Stays an impl for each error: one by a macro of the repository's own is no choice.
 impl From<EnterError> for Refusal {
     fn from(error: EnterError) -> Refusal {
         Refusal::Enter(error)

@@ -23,6 +23,7 @@ const LATE: [u8; 30] = [
 ];
 
 // Reads a source that was made; what came of it if it was accepted.
+// Stays with the card and the list apart, here and below: no fact binds the two.
 fn accepted<S: Source + Drop>(
     card: &mut Card,
     source: Option<S>,

@@ -41,7 +41,7 @@ fn report_refused(
 fn report_outcome(outcome: &Outcome, list: &[Step], out: &mut [u8]) -> Result<usize, ReportError>
     ensures { Reports (outcome_text outcome.now list.now) (read_room (length list.now)) out.old out.new result }
 {
-    // Stays with its numbers: a verdict that is no refusal has none, and each is told here alone, beside the last field of its line.
+    // Stays with its numbers: a verdict that is no refusal has none, and each is told beside the last field of its line.
     match outcome.verdict {
         Verdict::Accepted => report_accepted(outcome.steps, outcome.words, list, out),
         Verdict::Fault { number, place: _ } => report_refused(outcome, 11, number as usize, out),

@@ -2,6 +2,7 @@
 ghost use Rattle.std.specs.Prelude.{◌≡◌, ◌≤◌, length, decimal};
 
 // A lent buffer, and the place up to which it is written.
+// Stays a slice with a place: the place is how many bytes are written, which a report answers.
 #[derive(Drop)]
 pub(crate) struct Writer<'a> {
     out: &'a mut [u8],

@@ -13,6 +13,7 @@ pub enum Step {
 }
 
 // The number that digits in base ten stand for, if there are some and it is at most `most`.
+// Stays digit by digit: `parse` takes a sign too, and asks for a text, which these bytes need not be.
 fn number(digits: &[u8], most: u16) -> Option<u16>
     ensures value { result ≡ number_of most digits.now }
     ensures bound { IfSome result (λ n. n ≤ most) }
