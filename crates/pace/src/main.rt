@@ -9,6 +9,8 @@ use std::{env, io};
 fn main(rt: HostRuntime) -> io::Result<()> {
     let mut words = env::args(&rt)?;
     let _ = words.next();
-    let timed = words.next().is_some();
-    reads::reads(&rt, timed)
+    if words.next().is_some() {
+        return reads::reads(&rt, reads::time);
+    }
+    reads::reads(&rt, reads::show)
 }

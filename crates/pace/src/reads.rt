@@ -42,7 +42,7 @@ fn read(card: &mut Card, line: Line, list: &mut [Step]) -> Option<Outcome> {
 }
 
 // What a read of a line answers.
-fn show(
+pub(crate) fn show(
     rt: &HostRuntime,
     name: &str,
     card: &mut Card,
@@ -58,7 +58,7 @@ fn show(
 }
 
 // How fast a line is read, again and again.
-fn time(
+pub(crate) fn time(
     rt: &HostRuntime,
     name: &str,
     card: &mut Card,
@@ -83,9 +83,12 @@ fn card_of(file: &[u8]) -> Option<Card> {
     Some(card)
 }
 
-// Reads the line with this last word, as a tape and as a text, by the book of a file.
-// Stays with a flag: given the step as `impl Fn`, the check of the calls came to no end in nine minutes.
-fn read_line(rt: &HostRuntime, name: &str, file: &[u8], last: u8, timed: bool) -> io::Result<()> {
+// Takes the line with this last word, as a tape and as a text, by the book of a file.
+fn each_line<F>(rt: &HostRuntime, name: &str, file: &[u8], last: u8, step: &F) -> io::Result<()>
+where
+    F: Fn(&HostRuntime, &str, &mut Card, Line, &mut [Step]) -> io::Result<()>,
+    requires { F.IsAlwaysCallable step.now }
+{
     let mut list = [Step::default(); PLACES];
     let Some(mut card) = card_of(file) else {
         return println!(rt; "{name}: not built");
@@ -94,17 +97,17 @@ fn read_line(rt: &HostRuntime, name: &str, file: &[u8], last: u8, timed: bool) -
     let text = text_line(last);
     let letters = code_letters();
     for line in [Line::Tape(&tape), Line::Text(&text, &letters)] {
-        if timed {
-            time(rt, name, &mut card, line, &mut list)?;
-        } else {
-            show(rt, name, &mut card, line, &mut list)?;
-        }
+        step(rt, name, &mut card, line, &mut list)?;
     }
     Ok(())
 }
 
-// Reads a line of each book, and says what came of it or how fast it is.
-pub(crate) fn reads(rt: &HostRuntime, timed: bool) -> io::Result<()> {
-    read_line(rt, "a list", &LIST, 1, timed)?;
-    read_line(rt, "settled by the last word", &LATE, 2, timed)
+// Takes a line of each book by a step: to say what comes of it, or how fast it is.
+pub(crate) fn reads<F>(rt: &HostRuntime, step: F) -> io::Result<()>
+where
+    F: Fn(&HostRuntime, &str, &mut Card, Line, &mut [Step]) -> io::Result<()>,
+    requires { F.IsAlwaysCallable step }
+{
+    each_line(rt, "a list", &LIST, 1, &step)?;
+    each_line(rt, "settled by the last word", &LATE, 2, &step)
 }
