@@ -1,8 +1,15 @@
--- What the relation sets of the code stand for.
+-- What the relation sets of the code stand for, beside the rules that they belong to.
+use Rattle.std.specs.Prelude.{List}
 use Rattle.book.specs.Held.{productions_of}
+use Rattle.book.specs.Rules.{Production}
 use Rattle.grammar.specs.Numbered.{numbered}
 use Rattle.grammar.specs.Relations.{Relations}
 use Rattle.grammar.specs.declared.relations.RelationSets.{RelationSets}
+use Rattle.grammar.specs.declared.relations.RelatedRules.{RelatedRules}
 
-abbrev pub related_by : RelationSets → Relations
-related_by t = record { lines = numbered (productions_of t.rules.now); lefts = t.lefts; leftmosts = t.leftmosts; followers = t.followers }
+abbrev pub related_by : RelationSets → List Production → Relations
+related_by t rules = record { lines = numbered rules; lefts = t.lefts; leftmosts = t.leftmosts; followers = t.followers }
+
+-- rules and the sets beside them, as one
+abbrev pub related_in : RelatedRules → Relations
+related_in r = related_by r.sets.now (productions_of r.rules.now)

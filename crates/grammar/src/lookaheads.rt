@@ -2,12 +2,12 @@
 ghost use Rattle.std.specs.Prelude.{◌≡◌, map};
 ghost use Rattle.grammar.specs.Laws.{Lawful};
 ghost use Rattle.grammar.specs.Lookahead.{Policy, slr, leftmost_follow, lookahead_of, meets, slr_conflicting, slr_if_adequate};
-ghost use Rattle.grammar.specs.Relating.{related_by};
+ghost use Rattle.grammar.specs.Relating.{related_in};
 ghost use Rattle.grammar.specs.Sets.{codes};
 ghost use Rattle.grammar.specs.Policies.{slr_lawful, leftmost_follow_lawful, slr_if_adequate_lawful};
 
 use crate::items::{DotRow, is_complete, left_of, reads};
-use crate::relations::{RelationSets, set_of, unite};
+use crate::relations::{RelatedRules, set_of, unite};
 use crate::sets::{SymbolSet, only};
 
 pub trait Lookahead {
@@ -15,8 +15,8 @@ pub trait Lookahead {
     ghost policy: { Self → Policy };
 
     // The lookahead of the complete rule of this number, from 1 up, in a closed set: the symbols to which the policy says yes.
-    fn lookahead(&self, sets: &RelationSets, closed: &[DotRow], number: usize) -> SymbolSet
-        ensures { result ≡ map (policy self.now (related_by sets.now) closed.now number) codes };
+    fn lookahead(&self, related: &RelatedRules, closed: &[DotRow], number: usize) -> SymbolSet
+        ensures { result ≡ map (policy self.now (related_in related.now) closed.now number) codes };
 
     ghost lawful: { (x : Self) → Lawful (policy x) };
 }
@@ -24,16 +24,16 @@ pub trait Lookahead {
 // The lookahead of a complete rule. That of the outer rule is the end mark alone, and no policy decides it.
 pub fn lookahead_of<L: Lookahead>(
     look: &L,
-    sets: &RelationSets,
+    related: &RelatedRules,
     closed: &[DotRow],
     number: usize,
 ) -> SymbolSet
-    ensures { result ≡ lookahead_of (L.Lookahead.policy look.now (related_by sets.now) closed.now) number }
+    ensures { result ≡ lookahead_of (L.Lookahead.policy look.now (related_in related.now) closed.now) number }
 {
     if number == 0 {
         return only(0);
     }
-    look.lookahead(sets, closed, number)
+    look.lookahead(related, closed, number)
 }
 
 // SLR: the followers of the rule's left side.
@@ -45,8 +45,8 @@ impl Lookahead for Slr {
 
     ghost lawful = { λ x. slr_lawful };
 
-    fn lookahead(&self, sets: &RelationSets, closed: &[DotRow], number: usize) -> SymbolSet {
-        set_of(&sets.followers, left_of(sets.rules, number))
+    fn lookahead(&self, related: &RelatedRules, closed: &[DotRow], number: usize) -> SymbolSet {
+        set_of(&related.sets.followers, left_of(related.rules, number))
     }
 }
 
@@ -60,8 +60,8 @@ impl Lookahead for LeftmostFollow {
 
     ghost lawful = { λ x. leftmost_follow_lawful };
 
-    fn lookahead(&self, sets: &RelationSets, closed: &[DotRow], number: usize) -> SymbolSet {
-        set_of(&sets.leftmosts, left_of(sets.rules, number))
+    fn lookahead(&self, related: &RelatedRules, closed: &[DotRow], number: usize) -> SymbolSet {
+        set_of(&related.sets.leftmosts, left_of(related.rules, number))
     }
 }
 
@@ -73,14 +73,14 @@ fn meet(one: &SymbolSet, other: &SymbolSet) -> bool
 }
 
 // Whether SLR lookaheads give a closed set a conflict among its own reads and lookaheads.
-fn is_conflicting(sets: &RelationSets, closed: &[DotRow]) -> bool
-    ensures { result ≡ slr_conflicting (related_by sets.now) closed.now }
+fn is_conflicting(related: &RelatedRules, closed: &[DotRow]) -> bool
+    ensures { result ≡ slr_conflicting (related_in related.now) closed.now }
 {
-    let mut seen = reads(sets.rules, closed);
+    let mut seen = reads(related.rules, closed);
     // Stays a range: from the outer rule's 0 on, the number is what is asked about.
-    for number in 0..=sets.rules.len() {
-        if is_complete(sets.rules, closed, number) {
-            let lookahead = lookahead_of(&Slr, sets, closed, number);
+    for number in 0..=related.rules.len() {
+        if is_complete(related.rules, closed, number) {
+            let lookahead = lookahead_of(&Slr, related, closed, number);
             if meet(&seen, &lookahead) {
                 return true;
             }
@@ -101,11 +101,11 @@ impl<L: Lookahead> Lookahead for SlrIfAdequate<L> {
 
     ghost lawful = { λ x. slr_if_adequate_lawful (L.Lookahead.policy x.below) (L.Lookahead.lawful x.below) };
 
-    fn lookahead(&self, sets: &RelationSets, closed: &[DotRow], number: usize) -> SymbolSet {
-        if is_conflicting(sets, closed) {
-            return self.below.lookahead(sets, closed, number);
+    fn lookahead(&self, related: &RelatedRules, closed: &[DotRow], number: usize) -> SymbolSet {
+        if is_conflicting(related, closed) {
+            return self.below.lookahead(related, closed, number);
         }
-        Slr.lookahead(sets, closed, number)
+        Slr.lookahead(related, closed, number)
     }
 }
 

@@ -155,30 +155,34 @@ fn followers(lefts: &SymbolTable, leftmosts: &SymbolTable) -> SymbolTable
     all
 }
 
-// What a build works out once: left corners, leftmost followers and followers of every symbol, beside the rules that they belong to.
+// What a build works out once: left corners, leftmost followers and followers of every symbol.
 #[derive(Clone, Copy)]
-pub struct RelationSets<'a> {
-    pub rules: &'a [Rule],
+pub struct RelationSets {
     pub lefts: SymbolTable,
     pub leftmosts: SymbolTable,
     pub followers: SymbolTable,
 }
 
-impl<'a> RelationSets<'a> {
-    pub fn of(rules: &'a [Rule]) -> RelationSets<'a>
-        ensures rules { result.rules.now ≡ rules.now }
-        ensures equal { related_by result ≡ relations_of (productions_of rules.now) }
-        ensures tell { RelationsTell (productions_of rules.now) (related_by result) }
+impl RelationSets {
+    pub fn of(rules: &[Rule]) -> RelationSets
+        ensures equal { related_by result (productions_of rules.now) ≡ relations_of (productions_of rules.now) }
+        ensures tell { RelationsTell (productions_of rules.now) (related_by result (productions_of rules.now)) }
     {
         let lefts = corners(rules, End::First);
         let rights = corners(rules, End::Last);
         let leftmosts = leftmosts(&rights, rules);
         let followers = followers(&lefts, &leftmosts);
         RelationSets {
-            rules,
             lefts,
             leftmosts,
             followers,
         }
     }
+}
+
+// Rules, with the relation sets of a build beside them.
+#[derive(Clone, Copy)]
+pub struct RelatedRules<'a> {
+    pub rules: &'a [Rule],
+    pub sets: &'a RelationSets,
 }

@@ -1,7 +1,7 @@
 // Small books: corners, followers, useless codes, reads, and lookaheads under each policy.
 use crate::items::{DOTS, DotRow, is_complete, left_of, reads, right_of};
 use crate::lookaheads::{LSLR, LeftmostFollow, Lookahead, Slr};
-use crate::relations::{End, RelationSets, corners, related};
+use crate::relations::{End, RelatedRules, RelationSets, corners, related};
 use crate::sets::{SYMBOLS, SymbolSet, contains, insert};
 use crate::useful::useless;
 use book::books::Book;
@@ -58,15 +58,11 @@ fn corners_of_two_lists(rt: HostRuntime) -> Result<(), Fail> {
 #[test]
 fn followers_of_two_lists(rt: HostRuntime) -> Result<(), Fail> {
     let book = two_lists()?;
-    let RelationSets {
-        leftmosts,
-        followers,
-        ..
-    } = RelationSets::of(book.rules());
-    has_just(&rt, &leftmosts[41], &[0]);
-    has_just(&rt, &leftmosts[44], &[2, 44]);
-    has_just(&rt, &followers[44], &[2, 44, 1]);
-    has_just(&rt, &followers[45], &[3, 45, 1]);
+    let sets = RelationSets::of(book.rules());
+    has_just(&rt, &sets.leftmosts[41], &[0]);
+    has_just(&rt, &sets.leftmosts[44], &[2, 44]);
+    has_just(&rt, &sets.followers[44], &[2, 44, 1]);
+    has_just(&rt, &sets.followers[45], &[3, 45, 1]);
     Ok(())
 }
 
@@ -117,13 +113,15 @@ fn items_by_number(rt: HostRuntime) -> Result<(), Fail> {
 #[test]
 fn lookaheads_of_two_lists(rt: HostRuntime) -> Result<(), Fail> {
     let book = two_lists()?;
-    let sets = RelationSets::of(book.rules());
+    let rules = book.rules();
+    let sets = RelationSets::of(rules);
+    let related = RelatedRules { rules, sets: &sets };
     let both = after_a_one();
-    has_just(&rt, &Slr.lookahead(&sets, &both, 7), &[2, 44, 1]);
-    has_just(&rt, &LeftmostFollow.lookahead(&sets, &both, 7), &[2, 44]);
-    has_just(&rt, &LSLR.lookahead(&sets, &both, 7), &[2, 44]);
+    has_just(&rt, &Slr.lookahead(&related, &both, 7), &[2, 44, 1]);
+    has_just(&rt, &LeftmostFollow.lookahead(&related, &both, 7), &[2, 44]);
+    has_just(&rt, &LSLR.lookahead(&related, &both, 7), &[2, 44]);
     let mut one = both;
     one[8][1] = false;
-    has_just(&rt, &LSLR.lookahead(&sets, &one, 7), &[2, 44, 1]);
+    has_just(&rt, &LSLR.lookahead(&related, &one, 7), &[2, 44, 1]);
     Ok(())
 }

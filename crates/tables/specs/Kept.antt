@@ -8,7 +8,7 @@ use Rattle.grammar.specs.Items.{Items}
 use Rattle.grammar.specs.Sets.{Flags, has}
 use Rattle.grammar.specs.Relations.{Relations}
 use Rattle.grammar.specs.Lookahead.{leads}
-use Rattle.grammar.specs.Relating.{related_by}
+use Rattle.grammar.specs.Relating.{related_in}
 use Rattle.grammar.specs.States.{most_states}
 use Rattle.grammar.specs.declared.relations.RelationSets.{RelationSets}
 use Rattle.tables.specs.declared.kernels.Kernels.{Kernels}
@@ -25,10 +25,10 @@ lines_of rs = numbered (productions_of rs)
 
 -- the rules of a build, and what its relation sets stand for
 abbrev pub rules_in : {L : Type 0} → Build L → List Rule
-rules_in b = b.sets.now.rules.now
+rules_in b = b.related.now.rules.now
 
 abbrev pub relations_in : {L : Type 0} → Build L → Relations
-relations_in b = related_by b.sets.now
+relations_in b = related_in b.related.now
 
 -- the rows of an item set that belong to rules
 abbrev pub rows_for : List Rule → Items → Items

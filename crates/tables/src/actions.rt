@@ -101,7 +101,7 @@ impl<L: Lookahead> Build<'_, L> {
     fn shifts(&self, kernels: &Kernels, items: &ItemSet) -> Cells
         ensures { let rules = rules_in self.now in map cell_act result ≡ map (shift_at (kernels_in (length rules + 1) kernels.now) (lines_of rules) (rows_for rules items.now.rows) (reads (lines_of rules) (rows_for rules items.now.rows))) codes }
     {
-        let set = reads(self.sets.rules, self.rows(items));
+        let set = reads(self.related.rules, self.rows(items));
         let mut cells = [Ok(None); SYMBOLS];
         for (x, cell) in cells.iter_mut().enumerate() {
             *cell = self.shift_over(kernels, items, &set, x);
@@ -113,11 +113,11 @@ impl<L: Lookahead> Build<'_, L> {
     fn reduce_all(&self, closed: &ItemSet, cells: &mut Cells)
         ensures { let base = rows_for (rules_in self.now) closed.now.rows in map cell_act cells.new ≡ reduced (L.Lookahead.policy self.now.look.now (relations_in self.now) base) (complete_in (lines_of (rules_in self.now)) base) (map cell_act cells.old) }
     {
-        let n = self.sets.rules.len() + 1;
+        let n = self.related.rules.len() + 1;
         // Stays by number: whether a rule is complete, what it looks at and what is done are asked by it.
         for number in 0..n {
-            if is_complete(self.sets.rules, self.rows(closed), number) {
-                let ahead = lookahead_of(self.look, self.sets, self.rows(closed), number);
+            if is_complete(self.related.rules, self.rows(closed), number) {
+                let ahead = lookahead_of(self.look, self.related, self.rows(closed), number);
                 reduce_by(cells, &ahead, number as u8);
             }
         }

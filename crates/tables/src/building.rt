@@ -16,7 +16,7 @@ use crate::kernels::{Full, Kernels, MOST_STATES};
 use book::books::MOST_RULES;
 use book::rules::Rule;
 use grammar::lookaheads::Lookahead;
-use grammar::relations::RelationSets;
+use grammar::relations::{RelatedRules, RelationSets};
 use grammar::sets::SYMBOLS;
 use grammar::useful::useless;
 
@@ -125,7 +125,11 @@ impl Tables {
             return Err(BuildError::Useless(x));
         }
         let sets = RelationSets::of(rules);
-        self.construct(&Build { look, sets: &sets })
+        let related = RelatedRules { rules, sets: &sets };
+        self.construct(&Build {
+            look,
+            related: &related,
+        })
     }
 
     // The rows of the states, in order.

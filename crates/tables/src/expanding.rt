@@ -18,7 +18,7 @@ const SYMBOL_CODES: u8 = 81;
 
 // Whether some nonterminal is a leftmost follower of a and has b as a left corner.
 fn leads(sets: &RelationSets, a: u8, b: u8) -> bool
-    ensures { result ≡ leads (related_by sets.now) a b }
+    ensures { result ≡ leads (related_by sets.now []) a b }
 {
     (FIRST_NONTERMINAL..SYMBOL_CODES).any(|f| related(&sets.leftmosts, a, f)
         & related(&sets.lefts, f, b))
@@ -29,17 +29,17 @@ impl<L: Lookahead> Build<'_, L> {
     fn calls_for(&self, left: u8, ahead: &SymbolSet, q: usize) -> bool
         ensures { result ≡ calls_for (relations_in self.now) left ahead.now q }
     {
-        if contains(ahead, right_of(self.sets.rules, q)[0]) {
+        if contains(ahead, right_of(self.related.rules, q)[0]) {
             return false;
         }
-        leads(self.sets, left, left_of(self.sets.rules, q))
+        leads(self.related.sets, left, left_of(self.related.rules, q))
     }
 
     // Puts in the rules that one complete rule with this lookahead calls for.
     fn expand_by(&self, number: usize, ahead: &SymbolSet, items: &mut [DotRow])
         ensures { items.new ≡ expand_for (relations_in self.now) (λ _. has ahead.now) (number ∷ []) items.old }
     {
-        let left = left_of(self.sets.rules, number);
+        let left = left_of(self.related.rules, number);
         // Stays by number, from 1: what is written through `iter_mut().skip(1)` is not known to the proof, and `enumerate` would test each number for the outer rule's.
         for q in 1..items.len() {
             if self.calls_for(left, ahead, q) {
@@ -52,12 +52,12 @@ impl<L: Lookahead> Build<'_, L> {
     pub(crate) fn expanded(&self, closed: &ItemSet) -> ItemSet
         ensures { rows_for (rules_in self.now) result.rows ≡ items_from (L.Lookahead.policy self.now.look.now) (relations_in self.now) (rows_for (rules_in self.now) closed.now.rows) }
     {
-        let n = self.sets.rules.len() + 1;
+        let n = self.related.rules.len() + 1;
         let mut rows = closed.rows;
         // Stays by number: whether a rule is complete and what it looks at are asked by it.
         for number in 1..n {
-            if is_complete(self.sets.rules, self.rows(closed), number) {
-                let ahead = self.look.lookahead(self.sets, self.rows(closed), number);
+            if is_complete(self.related.rules, self.rows(closed), number) {
+                let ahead = self.look.lookahead(self.related, self.rows(closed), number);
                 self.expand_by(number, &ahead, &mut rows[..n]);
             }
         }

@@ -37,7 +37,7 @@ impl<L> Build<'_, L> {
         ensures value { result.now ≡ rows_for (rules_in self.now) items.now.rows }
         ensures len { length result.now ≡ length (rules_in self.now) + 1 }
     {
-        &items.rows[..=self.sets.rules.len()]
+        &items.rows[..=self.related.rules.len()]
     }
 
     // The kernel over a symbol.
@@ -46,7 +46,7 @@ impl<L> Build<'_, L> {
     {
         let mut rows = [[false; DOTS]; MOST_NUMBERED];
         for (k, row) in self.rows(items).iter().enumerate() {
-            rows[k] = move_row(right_of(self.sets.rules, k), row, symbol);
+            rows[k] = move_row(right_of(self.related.rules, k), row, symbol);
         }
         ItemSet { rows }
     }

@@ -26,7 +26,7 @@ impl<L: Lookahead> Build<'_, L> {
         ensures { rows_for (rules_in self.now) result.rows ≡ close (lines_of (rules_in self.now)) (rows_for (rules_in self.now) kernel.now.rows) }
     {
         let mut rows = kernel.rows;
-        close(self.sets.rules, &mut rows[..=self.sets.rules.len()]);
+        close(self.related.rules, &mut rows[..=self.related.rules.len()]);
         ItemSet { rows }
     }
 
@@ -34,8 +34,8 @@ impl<L: Lookahead> Build<'_, L> {
     fn visit(&self, kernels: &mut Kernels, items: &ItemSet) -> Result<(), Full>
         ensures { let rules = rules_in self.now in Found (length rules + 1) (visit (lines_of rules) (rows_for rules items.now.rows) (kernels_in (length rules + 1) kernels.old)) kernels.new result }
     {
-        let n = self.sets.rules.len() + 1;
-        let set = reads(self.sets.rules, self.rows(items));
+        let n = self.related.rules.len() + 1;
+        let set = reads(self.related.rules, self.rows(items));
         for (x, read) in set.iter().enumerate() {
             if *read {
                 kernels.find(n, &self.onward(items, x as u8))?;

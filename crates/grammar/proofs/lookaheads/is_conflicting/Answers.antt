@@ -6,7 +6,7 @@ use Rattle.grammar.specs.Items.{Items, is_complete}
 use Rattle.grammar.specs.Lookahead.{slr, lookahead_of, overlap, meets}
 use Rattle.grammar.specs.Numbered.{numbered}
 use Rattle.grammar.specs.Relations.{Relations}
-use Rattle.grammar.specs.Relating.{related_by}
+use Rattle.grammar.specs.Relating.{related_in}
 use Rattle.grammar.specs.Sets.{Flags, keep, union, up_from}
 use Rattle.grammar.proofs.Overlapping.{overlap_here, overlap_on, overlap_past, overlap_done}
 use Rattle.grammar.proofs.lookaheads.is_conflicting.Goals as goal
@@ -50,22 +50,22 @@ left_all rel ls closed seen all e =
 
 pub loop-number-init : goal.loop-number-init
 loop-number-init c =
-    let ls = productions_of c.args.sets.now.rules.now in
-    left_all (related_by c.args.sets.now) ls c.args.closed.now c.reads-seen.result _ c.reads-seen.ensures
+    let ls = productions_of c.args.related.now.rules.now in
+    left_all (related_in c.args.related.now) ls c.args.closed.now c.reads-seen.result _ c.reads-seen.ensures
 
 pub returns-then-meet : goal.returns-then-meet
 returns-then-meet c =
-    let many = length-map c.args.sets.now.rules.now production_of in
-    sym (met_here (related_by c.args.sets.now) (productions_of c.args.sets.now.rules.now) c.args.closed.now c.loop-number.number c.loop-number.seen
+    let many = length-map c.args.related.now.rules.now production_of in
+    sym (met_here (related_in c.args.related.now) (productions_of c.args.related.now.rules.now) c.args.closed.now c.loop-number.number c.loop-number.seen
     (omega (arith, many, c.loop-number-test.true)) _ c.is_complete.ensures c.if-is_complete.true _ c.lookahead_of-lookahead.ensures _ c.meet.ensures c.if-meet.true)
     ∙ c.loop-number.invariant
 
 pub loop-number-preserved : goal.loop-number-preserved
 loop-number-preserved c =
-    let many = length-map c.args.sets.now.rules.now production_of in
-    let inside : c.loop-number.number ≤ length (productions_of c.args.sets.now.rules.now) = omega (arith, many, c.loop-number-test.true) in
-    let rel = related_by c.args.sets.now in
-    let ls = productions_of c.args.sets.now.rules.now in
+    let many = length-map c.args.related.now.rules.now production_of in
+    let inside : c.loop-number.number ≤ length (productions_of c.args.related.now.rules.now) = omega (arith, many, c.loop-number-test.true) in
+    let rel = related_in c.args.related.now in
+    let ls = productions_of c.args.related.now.rules.now in
     elim c.if-is_complete.branch [
       | then-is_complete+else-meet w ↦
           unmet_here rel ls c.args.closed.now c.loop-number.number c.loop-number.seen inside _ c.is_complete.ensures w.if-is_complete.true
@@ -78,10 +78,10 @@ loop-number-preserved c =
 
 pub returns-after-is_complete : goal.returns-after-is_complete
 returns-after-is_complete c =
-    let many = length-map c.args.sets.now.rules.now production_of in
-    let inside : c.loop-number.number ≤ length (productions_of c.args.sets.now.rules.now) = omega (arith, many, c.loop-number-test.true) in
-    let rel = related_by c.args.sets.now in
-    let ls = productions_of c.args.sets.now.rules.now in
+    let many = length-map c.args.related.now.rules.now production_of in
+    let inside : c.loop-number.number ≤ length (productions_of c.args.related.now.rules.now) = omega (arith, many, c.loop-number-test.true) in
+    let rel = related_in c.args.related.now in
+    let ls = productions_of c.args.related.now.rules.now in
     let over : length ls < c.loop-number.number + 1 = omega (arith, many) in
     elim c.if-is_complete.branch [
       | then-is_complete+else-meet w ↦

@@ -1,4 +1,4 @@
-use Rattle.std.proofs.Common.{List, refl, ap, ◌∙◌, ap₂}
+use Rattle.std.proofs.Common.{List, ap, ◌∙◌, ap₂}
 use Rattle.book.specs.Held.{productions_of}
 use Rattle.grammar.specs.Numbered.{numbered}
 use Rattle.grammar.specs.Relations.{Relations, with_followers, with_leftmosts}
@@ -16,4 +16,4 @@ returns c =
     ap made c.followers-followers.ensures
     ∙ ap (with_followers rules lefts) c.leftmosts-leftmosts.ensures
     ∙ ap₂ (with_leftmosts rules) c.corners-lefts.ensures.equal c.corners-rights.ensures.equal in
-    record { rules = refl; equal = equal; tell = relations_tell c.args.rules.now _ equal }
+    record { equal = equal; tell = relations_tell c.args.rules.now _ equal }

@@ -16,7 +16,7 @@ pub returns-in-Err : goal.returns-in-Err
 returns-in-Err g c =
     let policy = g.L.Lookahead.policy c.args.build.now.look.now in
     let rel : Relations = relations_in c.args.build.now in
-    let n = length c.args.build.now.sets.now.rules.now + 1 in
+    let n = length c.args.build.now.related.now.rules.now + 1 in
     let ks = c.args.kernels.now in
     let found = c.found-kernel-items.result.now in
     let all : List (List Act) = rows_of policy rel (kernels_in n ks) in
@@ -35,7 +35,7 @@ pub loop-s-preserved : goal.loop-s-preserved
 loop-s-preserved g c =
     let policy = g.L.Lookahead.policy c.args.build.now.look.now in
     let rel : Relations = relations_in c.args.build.now in
-    let n = length c.args.build.now.sets.now.rules.now + 1 in
+    let n = length c.args.build.now.related.now.rules.now + 1 in
     let ks = c.args.kernels.now in
     let found = c.found-kernel-items.result.now in
     let all : List (List Act) = rows_of policy rel (kernels_in n ks) in
@@ -51,7 +51,7 @@ pub returns : goal.returns
 returns g c =
     let policy = g.L.Lookahead.policy c.args.build.now.look.now in
     let rel : Relations = relations_in c.args.build.now in
-    let n = length c.args.build.now.sets.now.rules.now + 1 in
+    let n = length c.args.build.now.related.now.rules.now + 1 in
     let ks = c.args.kernels.now in
     let found = c.found-kernel-items.result.now in
     let all : List (List Act) = rows_of policy rel (kernels_in n ks) in

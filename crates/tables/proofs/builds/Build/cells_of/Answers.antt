@@ -9,7 +9,7 @@ use Rattle.tables.proofs.builds.Build.cells_of.Goals as goal
 
 pub returns : goal.returns
 returns g c =
-    let rs = c.args.self.now.sets.now.rules.now in
+    let rs = c.args.self.now.related.now.rules.now in
     let rel = relations_in c.args.self.now in
     let lines = lines_of rs in
     let ks = kernels_in (length rs + 1) c.args.kernels.now in

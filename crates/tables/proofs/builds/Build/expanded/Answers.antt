@@ -14,7 +14,7 @@ use Rattle.tables.proofs.builds.Build.expanded.Goals.{then-is_complete, else-is_
 
 pub loop-number-init : goal.loop-number-init
 loop-number-init g c =
-    let rs = c.args.self.now.sets.now.rules.now in
+    let rs = c.args.self.now.related.now.rules.now in
     let rel : Relations = relations_in c.args.self.now in
     let base = rows_for rs c.args.closed.now.rows in
     let look : Look = g.L.Lookahead.policy c.args.self.now.look.now rel base in
@@ -27,7 +27,7 @@ loop-number-init g c =
 
 pub loop-number-preserved : goal.loop-number-preserved
 loop-number-preserved g c =
-    let rs = c.args.self.now.sets.now.rules.now in
+    let rs = c.args.self.now.related.now.rules.now in
     let rel : Relations = relations_in c.args.self.now in
     let base = rows_for rs c.args.closed.now.rows in
     let policy = g.L.Lookahead.policy c.args.self.now.look.now rel in
@@ -61,7 +61,7 @@ loop-number-preserved g c =
 
 pub returns : goal.returns
 returns g c =
-    let rs = c.args.self.now.sets.now.rules.now in
+    let rs = c.args.self.now.related.now.rules.now in
     let rel : Relations = relations_in c.args.self.now in
     let base = rows_for rs c.args.closed.now.rows in
     let look : Look = g.L.Lookahead.policy c.args.self.now.look.now rel base in

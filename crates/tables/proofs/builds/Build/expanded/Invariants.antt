@@ -8,7 +8,7 @@ use Rattle.tables.proofs.builds.Build.expanded.Given as goal
 
 abbrev pub invariant-loop-number : goal.invariant-loop-number
 invariant-loop-number g l =
-    let rules = l.self.sets.now.rules.now in
+    let rules = l.self.related.now.rules.now in
     let rel = relations_in l.self in
     let base = rows_for rules l.closed.rows in
     record {

@@ -15,7 +15,7 @@ refused_for P m n (Err _) is h l = omega arith
 
 pub loop-kernel-init : goal.loop-kernel-init
 loop-kernel-init g c =
-    let rs = c.args.self.now.sets.now.rules.now in
+    let rs = c.args.self.now.related.now.rules.now in
     let policy = g.L.Lookahead.policy c.args.self.now.look.now in
     let rel : Relations = relations_in c.args.self.now in
     record {
@@ -25,7 +25,7 @@ loop-kernel-init g c =
 
 pub returns-in_err-visit : goal.returns-in_err-visit
 returns-in_err-visit g c =
-    let rs = c.args.self.now.sets.now.rules.now in
+    let rs = c.args.self.now.related.now.rules.now in
     let n = length rs + 1 in
     let policy = g.L.Lookahead.policy c.args.self.now.look.now in
     let rel : Relations = relations_in c.args.self.now in
@@ -55,7 +55,7 @@ loop-kernel-smaller g c =
 
 pub loop-kernel-preserved : goal.loop-kernel-preserved
 loop-kernel-preserved g c =
-    let rs = c.args.self.now.sets.now.rules.now in
+    let rs = c.args.self.now.related.now.rules.now in
     let n = length rs + 1 in
     let policy = g.L.Lookahead.policy c.args.self.now.look.now in
     let rel : Relations = relations_in c.args.self.now in
@@ -77,7 +77,7 @@ loop-kernel-preserved g c =
 
 pub returns : goal.returns
 returns g c =
-    let n = length c.args.self.now.sets.now.rules.now + 1 in
+    let n = length c.args.self.now.related.now.rules.now + 1 in
     let policy = g.L.Lookahead.policy c.args.self.now.look.now in
     let rel : Relations = relations_in c.args.self.now in
     let state = c.loop-kernel.state in

@@ -8,7 +8,7 @@ invariant-loop-kernel g l =
     let policy = g.L.Lookahead.policy l.self.look.now in
     record {
       within : l.state ≤ most_states;
-      left : explore policy (relations_in l.self) (most_states - l.state) l.state (kernels_in (length l.self.sets.now.rules.now + 1) l.kernels) ≡ kernels_of policy (relations_in l.self);
+      left : explore policy (relations_in l.self) (most_states - l.state) l.state (kernels_in (length l.self.related.now.rules.now + 1) l.kernels) ≡ kernels_of policy (relations_in l.self);
     }
 
 abbrev pub decreases-loop-kernel : goal.decreases-loop-kernel

@@ -14,7 +14,7 @@ loop-k-init g c = record { long = refl; left = refl }
 
 pub loop-k-preserved : goal.loop-k-preserved
 loop-k-preserved g c =
-    let lines = lines_of c.args.self.now.sets.now.rules.now in
+    let lines = lines_of c.args.self.now.related.now.rules.now in
     let items = c.rows-row-items.result.now in
     let x = c.args.symbol in
     let k = c.loop-k.k in
@@ -24,7 +24,7 @@ loop-k-preserved g c =
     let rest = onward x (drop (k + 1) lines) (drop (k + 1) items) in
     let moved : v ≡ false ∷ before x (get_or lines k outer).rhs row = c.move_row.ensures ∙ ap (λ ws. false ∷ before x ws row) c.right_of.ensures in
     let step : onward x (drop k lines) (drop k items) ≡ (false ∷ before x (get_or lines k outer).rhs row) ∷ rest =
-    at_drops_more (onward x) lines items k outer [] (omega (arith, c.rows-row-items.ensures.len, length-map c.args.self.now.sets.now.rules.now production_of)) c.loop-k-test.true in
+    at_drops_more (onward x) lines items k outer [] (omega (arith, c.rows-row-items.ensures.len, length-map c.args.self.now.related.now.rules.now production_of)) c.loop-k-test.true in
     record {
       long = length-set next k v ∙ c.loop-k.invariant.long;
       left = ap (λ q. q ++ rest) (take_more_set next k v (omega (arith, c.loop-k.invariant.long, c.rows-row-items.ensures.len, c.args.self.now.few))) ∙ append_assoc (take k next) (v ∷ []) rest
@@ -33,7 +33,7 @@ loop-k-preserved g c =
 
 pub returns : goal.returns
 returns g c =
-    let rs = c.args.self.now.sets.now.rules.now in
+    let rs = c.args.self.now.related.now.rules.now in
     let lines = lines_of rs in
     let items = c.rows-row-items.result.now in
     let x = c.args.symbol in

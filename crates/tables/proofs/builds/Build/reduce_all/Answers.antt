@@ -14,7 +14,7 @@ use Rattle.tables.proofs.builds.Build.reduce_all.Goals.{then-is_complete, else-i
 
 pub loop-number-init : goal.loop-number-init
 loop-number-init g c =
-    let rs = c.args.self.now.sets.now.rules.now in
+    let rs = c.args.self.now.related.now.rules.now in
     let base = rows_for rs c.args.closed.now.rows in
     let look : Look = g.L.Lookahead.policy c.args.self.now.look.now (relations_in c.args.self.now) base in
     let e : length (lines_of rs) - 0 ≡ length (lines_of rs) = omega arith in
@@ -22,7 +22,7 @@ loop-number-init g c =
 
 pub loop-number-preserved : goal.loop-number-preserved
 loop-number-preserved g c =
-    let rs = c.args.self.now.sets.now.rules.now in
+    let rs = c.args.self.now.related.now.rules.now in
     let base = rows_for rs c.args.closed.now.rows in
     let look : Look = g.L.Lookahead.policy c.args.self.now.look.now (relations_in c.args.self.now) base in
     let p = is_complete (lines_of rs) base in
@@ -42,7 +42,7 @@ loop-number-preserved g c =
 
 pub returns : goal.returns
 returns g c =
-    let rs = c.args.self.now.sets.now.rules.now in
+    let rs = c.args.self.now.related.now.rules.now in
     let base = rows_for rs c.args.closed.now.rows in
     let look : Look = g.L.Lookahead.policy c.args.self.now.look.now (relations_in c.args.self.now) base in
     let p = is_complete (lines_of rs) base in

@@ -6,6 +6,6 @@ use Rattle.tables.proofs.builds.Build.row_of.Goals as goal
 
 pub returns : goal.returns
 returns g c =
-    let ks = kernels_in (length c.args.self.now.sets.now.rules.now + 1) c.args.kernels.now in
+    let ks = kernels_in (length c.args.self.now.related.now.rules.now + 1) c.args.kernels.now in
     let P : List Act → Type 0 = λ acts. Settled acts c.settle.result in
     subst P (c.cells_of.ensures ∙ ap (row_of (g.L.Lookahead.policy c.args.self.now.look.now) (relations_in c.args.self.now) ks) c.closed.ensures) c.settle.ensures

@@ -6,7 +6,7 @@ use Rattle.tables.proofs.builds.Build.shifts.Given as goal
 
 abbrev pub invariant-loop-x : goal.invariant-loop-x
 invariant-loop-x g l =
-    let rules = l.self.sets.now.rules.now in
+    let rules = l.self.related.now.rules.now in
     record {
       long : length l.cell-items ≡ symbol_count;
       filled : map cell_act (take l.x l.cell-items) ≡ map (shift_at (kernels_in (length rules + 1) l.kernels) (lines_of rules) (rows_for rules l.items.rows) l.set) (up_from 0 l.x);

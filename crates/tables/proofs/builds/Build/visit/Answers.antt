@@ -10,13 +10,13 @@ use Rattle.tables.proofs.builds.Build.visit.Goals.{then-read+in_ok-find, else-re
 
 pub loop-x-init : goal.loop-x-init
 loop-x-init g c =
-    let rules = c.args.self.now.sets.now.rules.now in
+    let rules = c.args.self.now.related.now.rules.now in
     let items = rows_for rules c.args.items.now.rows in
     ap (λ s. with_next (lines_of rules) items s codes (kernels_in (length rules + 1) c.args.kernels.now)) (c.reads-set.ensures ∙ ap (reads (lines_of rules)) c.rows.ensures.value)
 
 pub returns-in_err-find : goal.returns-in_err-find
 returns-in_err-find g c =
-    let rules = c.args.self.now.sets.now.rules.now in
+    let rules = c.args.self.now.related.now.rules.now in
     let lines = lines_of rules in
     let items = rows_for rules c.args.items.now.rows in
     let set = c.reads-set.result in
@@ -33,7 +33,7 @@ returns-in_err-find g c =
 
 pub loop-x-preserved : goal.loop-x-preserved
 loop-x-preserved g c =
-    let rules = c.args.self.now.sets.now.rules.now in
+    let rules = c.args.self.now.related.now.rules.now in
     let lines = lines_of rules in
     let items = rows_for rules c.args.items.now.rows in
     let n = length rules + 1 in
@@ -50,6 +50,6 @@ loop-x-preserved g c =
 
 pub returns : goal.returns
 returns g c =
-    let rules = c.args.self.now.sets.now.rules.now in
+    let rules = c.args.self.now.related.now.rules.now in
     sym (ap (λ q. with_next (lines_of rules) (rows_for rules c.args.items.now.rows) c.reads-set.result q (kernels_in (length rules + 1) c.loop-x.kernels)) (up_done symbol_count c.loop-x.x c.loop-x-test.false))
     ∙ c.loop-x.invariant
