@@ -15,7 +15,7 @@ pub struct Full;
 
 // The kernels that are found so far.
 // Stays an array with a count, and no stack as a read has: a build has fixed memory, and finds and reads its kernels in order.
-#[derive(Drop)]
+#[derive(Clone, Copy)]
 pub struct Kernels {
     sets: [ItemSet; MOST_STATES],
     count: usize,
