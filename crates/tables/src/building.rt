@@ -108,8 +108,9 @@ impl Tables {
     fn construct<L: Lookahead>(&mut self, build: &Build<L>) -> Result<(), BuildError>
         ensures { said_of (λ _. table_of self.new) build_refusal result ≡ built_by (L.Lookahead.policy build.now.look.now) (relations_in build.now) }
     {
-        match build.explore() {
-            Ok(kernels) => self.fill_rows(build, &kernels),
+        let mut kernels = Kernels::new();
+        match build.explore(&mut kernels) {
+            Ok(()) => self.fill_rows(build, &kernels),
             Err(Full) => Err(BuildError::States),
         }
     }

@@ -1,7 +1,7 @@
 // The states of a book, found one after another from their kernels.
-ghost use Rattle.std.specs.Prelude.{◌≡◌, ◌+◌, ◌<◌, MatchResult, length};
+ghost use Rattle.std.specs.Prelude.{◌≡◌, ◌+◌, length};
 ghost use Rattle.grammar.specs.Items.{close, start_kernel};
-ghost use Rattle.grammar.specs.States.{visit, kernels_of, most_states};
+ghost use Rattle.grammar.specs.States.{visit, kernels_of};
 ghost use Rattle.tables.specs.Kept.{rules_in, relations_in, lines_of, rows_for, kernels_in, Found};
 
 use crate::builds::Build;
@@ -44,18 +44,18 @@ impl<L: Lookahead> Build<'_, L> {
         Ok(())
     }
 
-    // The kernels of all states.
-    pub(crate) fn explore(&self) -> Result<Kernels, Full>
-        ensures { let all = kernels_of (L.Lookahead.policy self.now.look.now) (relations_in self.now) in MatchResult result (λ kernels. kernels_in (length (rules_in self.now) + 1) kernels ≡ all) (λ _. most_states < length all) }
+    // The kernels of all states are found. They are lent: as an answer they would be copied.
+    pub(crate) fn explore(&self, kernels: &mut Kernels) -> Result<(), Full>
+        ensures { Found (length (rules_in self.now) + 1) (kernels_of (L.Lookahead.policy self.now.look.now) (relations_in self.now)) kernels.new result }
     {
-        let mut kernels = Kernels::of(&self.start_kernel());
+        kernels.start(&self.start_kernel());
         let mut state = 0;
         // Stays an index: visiting a state puts others behind it, so that no iterator can hold the kernels.
         while let Some(kernel) = kernels.found().get(state) {
             let items = self.expanded(&self.closed(kernel));
-            self.visit(&mut kernels, &items)?;
+            self.visit(kernels, &items)?;
             state += 1;
         }
-        Ok(kernels)
+        Ok(())
     }
 }

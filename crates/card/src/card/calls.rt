@@ -27,13 +27,11 @@ use reading::runs::run;
 use source::sources::Source;
 use tables::building::{BuildError, Tables};
 
-// The tables of a book, by a lookahead policy.
-fn tables_of<L: Lookahead>(book: &Book, look: &L) -> Result<Tables, BuildError>
-    ensures { said_of table_of build_refusal result ≡ fill_says (L.Lookahead.policy look.now) (rules_of book.now) }
+// Fills tables from a book. What they are after a refusal is free.
+fn fill_from<L: Lookahead>(tables: &mut Tables, book: &Book, look: &L) -> Result<(), BuildError>
+    ensures { said_of (λ _. table_of tables.new) build_refusal result ≡ fill_says (L.Lookahead.policy look.now) (rules_of book.now) }
 {
-    let mut tables = Tables::new();
-    tables.fill(book.rules(), look)?;
-    Ok(tables)
+    tables.fill(book.rules(), look)
 }
 
 impl Card {
@@ -105,9 +103,12 @@ impl Card {
         ensures model { (law : Lawful (L.Lookahead.policy look.now)) → model_of self.new ≡ step_of (calls_build (L.Lookahead.policy look.now) law) (model_of self.old) }
         ensures service { (law : Lawful (L.Lookahead.policy look.now)) → Serves (calls_build (L.Lookahead.policy look.now) law) (model_of self.old) (model_of self.new) }
     {
-        self.tables = None; // so it stays if the build is refused
-        self.tables = Some(tables_of(&self.book, look)?);
-        Ok(())
+        let tables = self.tables.get_or_insert_with(Tables::new);
+        let filled = fill_from(tables, &self.book, look);
+        if filled.is_err() {
+            self.tables = None;
+        }
+        filled
     }
 
     // Writes the row of a state as numbers at the start of a buffer, and answers how many they are.

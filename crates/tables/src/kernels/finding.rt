@@ -4,8 +4,8 @@ ghost use Rattle.grammar.specs.States.{same_items, number_of, with_kernel};
 ghost use Rattle.tables.specs.Kept.{most_numbered, kernels_in, Found};
 
 use crate::kernels::{Full, Kernels, MOST_STATES};
-use crate::moving::ItemSet;
-use grammar::items::DotRow;
+use crate::moving::{ItemSet, MOST_NUMBERED};
+use grammar::items::{DOTS, DotRow};
 
 // Whether two item sets are the same, where row k is the likeliest to differ.
 // Stays beside `==`, for speed: see `number_of`.
@@ -29,12 +29,23 @@ fn first_dotted(items: &[DotRow]) -> usize
 }
 
 impl Kernels {
-    // One kernel alone.
-    pub(crate) fn of(first: &ItemSet) -> Kernels
-        ensures { (n : ℕ) → kernels_in n result ≡ take n first.now.rows ∷ [] }
+    // No kernels.
+    pub(crate) fn new() -> Kernels {
+        let none = ItemSet {
+            rows: [[false; DOTS]; MOST_NUMBERED],
+        };
+        Kernels {
+            sets: [none; MOST_STATES],
+            count: 0,
+        }
+    }
+
+    // One kernel alone: what was found before is forgotten.
+    pub(crate) fn start(&mut self, first: &ItemSet)
+        ensures { (n : ℕ) → kernels_in n self.new ≡ take n first.now.rows ∷ [] }
     {
-        let sets = [*first; MOST_STATES];
-        Kernels { sets, count: 1 }
+        self.sets[0] = *first;
+        self.count = 1;
     }
 
     // The kernels in order.

@@ -11,8 +11,8 @@ returns-in-Ok g c =
     let policy = g.L.Lookahead.policy c.args.build.now.look.now in
     let rel : Relations = relations_in c.args.build.now in
     let n = length c.args.build.now.related.now.rules.now + 1 in
-    let ks = kernels_in n c.in-Ok.kernels in
-    c.fill_rows.ensures ∙ within_few policy rel ks (kernels_few n c.in-Ok.kernels) ∙ ap (within_states policy rel) c.in-Ok.ensures
+    let ks = kernels_in n c.explore.new.kernels in
+    c.fill_rows.ensures ∙ within_few policy rel ks (kernels_few n c.explore.new.kernels) ∙ ap (within_states policy rel) c.in-Ok.ensures
 
 pub returns-in-Err : goal.returns-in-Err
 returns-in-Err g c =

@@ -1,17 +1,17 @@
-use Rattle.std.proofs.Common.{◌≡◌, ℕ, ◌+◌, ◌-◌, ◌<◌, ◌≤◌, true, List, Ok, Err, Result, is_err, MatchResult, [], ◌∷◌, length, get_or, sym, ap, ◌∙◌, subst, arith, rules}
+use Rattle.std.proofs.Common.{◌≡◌, ℕ, ◌+◌, ◌-◌, ◌<◌, ◌≤◌, true, List, Ok, Err, Result, is_err, [], ◌∷◌, length, get_or, sym, ap, ◌∙◌, subst, arith, rules}
 use Rattle.grammar.specs.Items.{Items}
 use Rattle.grammar.specs.Relations.{Relations}
 use Rattle.grammar.specs.States.{items_from, items_of, visit, explore, kernels_of, most_states}
 use Rattle.tables.specs.declared.kernels.Kernels.{Kernels}
 use Rattle.tables.specs.declared.kernels.Full.{Full}
-use Rattle.tables.specs.Kept.{relations_in, rows_for, kernels_in}
+use Rattle.tables.specs.Kept.{relations_in, rows_for, kernels_in, Found}
 use Rattle.tables.proofs.Finding.{found_long, found_few, found_at, explore_more, explore_end, explore_grows}
 use Rattle.tables.proofs.builds.Build.explore.Goals as goal
 
 -- a refusal, where there are at least as many kernels as were too many
-refused_for : (P : Kernels → Type 0) (m n : ℕ) (r : Result Kernels Full) → is_err r ≡ true → most_states < m → m ≤ n → MatchResult r P (λ _. most_states < n)
-refused_for P m n (Ok _) is h l = cc
-refused_for P m n (Err _) is h l = omega arith
+refused_for : (n : ℕ) (all : List Items) (ks : Kernels) (m : ℕ) (r : Result (Unit {0}) Full) → is_err r ≡ true → most_states < m → m ≤ length all → Found n all ks r
+refused_for n all ks m (Ok _) is h l = cc
+refused_for n all ks m (Err _) is h l = omega arith
 
 pub loop-kernel-init : goal.loop-kernel-init
 loop-kernel-init g c =
@@ -20,7 +20,7 @@ loop-kernel-init g c =
     let rel : Relations = relations_in c.args.self.now in
     record {
       within = omega arith;
-      left = ap (explore policy rel most_states 0) (c.of-kernels.ensures (length rs + 1) ∙ ap (λ q. q ∷ []) c.start_kernel.ensures);
+      left = ap (explore policy rel most_states 0) (c.start.ensures (length rs + 1) ∙ ap (λ q. q ∷ []) c.start_kernel.ensures);
     }
 
 pub returns-in_err-visit : goal.returns-in_err-visit
@@ -45,7 +45,7 @@ returns-in_err-visit g c =
     let R : List Items → Type 0 = λ q. length next ≤ length q in
     let grows : length next ≤ length (kernels_of policy rel) =
     subst R (sym (explore_more policy rel state ks h l) ∙ c.loop-kernel.invariant.left) (explore_grows policy rel (most_states - (state + 1)) (state + 1) next) in
-    refused_for (λ kernels. kernels_in n kernels ≡ kernels_of policy rel) (length next) (length (kernels_of policy rel)) c.from_residual.result c.from_residual.ensures.0 many grows
+    refused_for n (kernels_of policy rel) c.visit.new.kernels (length next) c.from_residual.result c.from_residual.ensures.0 many grows
 
 pub loop-kernel-smaller : goal.loop-kernel-smaller
 loop-kernel-smaller g c =
