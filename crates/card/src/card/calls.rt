@@ -53,7 +53,9 @@ impl Card {
         ensures service { Serves (calls_enter (left ⟶ right.now)) (model_of self.old) (model_of self.new) }
     {
         self.book.enter(left, right)?;
-        self.tables = None;
+        if self.tables.is_some() {
+            self.tables = None;
+        }
         Ok(())
     }
 
@@ -64,7 +66,9 @@ impl Card {
         ensures service { Serves (calls_strike number) (model_of self.old) (model_of self.new) }
     {
         self.book.strike(number)?;
-        self.tables = None;
+        if self.tables.is_some() {
+            self.tables = None;
+        }
         Ok(())
     }
 
@@ -76,7 +80,9 @@ impl Card {
         ensures file { OnOk result (IsFileOf bytes.now (model_of self.new).held_rules) }
     {
         self.book.load(bytes)?;
-        self.tables = None;
+        if self.tables.is_some() {
+            self.tables = None;
+        }
         Ok(())
     }
 
