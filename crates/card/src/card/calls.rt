@@ -112,7 +112,7 @@ impl Card {
         let tables = self.tables.get_or_insert_with(Tables::new);
         let filled = fill_from(tables, &self.book, look);
         if filled.is_err() {
-            self.tables = None;
+            self.tables = None; // what a refused fill leaves is free
         }
         filled
     }

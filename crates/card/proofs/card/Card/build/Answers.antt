@@ -36,19 +36,15 @@ invariant_of-self-else-is_err g c =
     fill_grants c.fill_from-filled.result (table_of tables) (build_says policy rules) (sym c.is_err.ensures.value ∙ c.if-is_err.false) (c.fill_from-filled.ensures ∙ fills policy rules card.sound) in
     record { sound = card.sound; belongs = granted_belongs policy (g.met.L.Lookahead.lawful c.args.look.now) card.book tables says }
 
-pub returns-else-is_err : goal.returns-else-is_err
-returns-else-is_err g c =
+pub returns-else-is_err-clause-lawful : goal.returns-else-is_err-clause-lawful
+returns-else-is_err-clause-lawful g c = g.met.L.Lookahead.lawful c.args.look.now
+
+pub returns-else-is_err-clause-service : goal.returns-else-is_err-clause-service
+returns-else-is_err-clause-service g c law =
     let card = c.args.self.now in
     let policy = g.L.Lookahead.policy c.args.look.now in
     let rules = rules_of card.book in
-    let filled = c.fill_from-filled.result in
     let rows = table_of c.fill_from-filled.new.tables in
-    let says = c.fill_from-filled.ensures ∙ fills policy rules card.sound in
-    let made : granted rows ≡ build_says policy rules = fill_grants filled rows (build_says policy rules) (sym c.is_err.ensures.value ∙ c.if-is_err.false) says in
-    let model = granted_leaves rules rows (build_says policy rules) made in
-    record {
-      answer = fill_answers filled rows (build_says policy rules) says;
-      lawful = g.met.L.Lookahead.lawful c.args.look.now;
-      model = λ law. model;
-      service = λ law. serves (calls_build policy law) (model_of card) (built_with rules rows) model;
-    }
+    let made : granted rows ≡ build_says policy rules =
+    fill_grants c.fill_from-filled.result rows (build_says policy rules) (sym c.is_err.ensures.value ∙ c.if-is_err.false) (c.fill_from-filled.ensures ∙ fills policy rules card.sound) in
+    serves (calls_build policy law) (model_of card) (built_with rules rows) (granted_leaves rules rows (build_says policy rules) made)
