@@ -2,7 +2,7 @@
 use Rattle.std.proofs.Common.{◌≡◌, Bool, true, false, ◌&&◌, leb, List, [], length, is_err, Ok, Err, Result, Some, None, sym, ap, subst}
 use Rattle.std.proofs.lemmas.Option.{none-some, same_Some}
 use Rattle.std.proofs.lemmas.Bool.{false≢true, and_parts, leb-true, le-ltb}
-use Rattle.book.specs.Answers.{Answer, granted, refused, Refusal, no, said, said_of, refuse_if, and_then, leaves}
+use Rattle.book.specs.Answers.{Answer, granted, refused, Refusal, no, said_of, refuse_if, leaves}
 use Rattle.book.specs.declared.books.Book.{Book}
 use Rattle.book.specs.Held.{rules_of}
 use Rattle.book.specs.Rules.{Production, all_bounded, distinct, is_well_formed}
@@ -30,12 +30,6 @@ refused_leaves rules n says e = ap (λ (a : Answer (List (List Act))). leaves a 
 pub granted_leaves : (rules : List Production) (rows : List (List Act)) (says : Answer (List (List Act))) → granted rows ≡ says → built_with rules rows ≡ leaves says (built_with rules) (unbuilt rules)
 granted_leaves rules rows says e = ap (λ (a : Answer (List (List Act))). leaves a (built_with rules) (unbuilt rules)) e
 
-pub refused_answers : (n : Refusal) (says : Answer (List (List Act))) → refused n ≡ says → ◌≡◌ {A = Answer (Unit {0})} (refused n) (and_then says (λ _. granted tt))
-refused_answers n says e = ap (λ (a : Answer (List (List Act))). and_then a (λ _. granted tt)) e
-
-pub granted_answers : (rows : List (List Act)) (says : Answer (List (List Act))) → granted rows ≡ says → ◌≡◌ {A = Answer (Unit {0})} (granted tt) (and_then says (λ _. granted tt))
-granted_answers rows says e = ap (λ (a : Answer (List (List Act))). and_then a (λ _. granted tt)) e
-
 -- a fill's answer is a grant or a refusal
 
 pub fill_grants : (r : Result (Unit {0}) BuildError) (rows : List (List Act)) (says : Answer (List (List Act))) → is_err r ≡ false
@@ -47,11 +41,6 @@ pub fill_leaves_none : (r : Result (Unit {0}) BuildError) (rules : List Producti
     → said_of (λ _. rows) build_refusal r ≡ says → unbuilt rules ≡ leaves says (built_with rules) (unbuilt rules)
 fill_leaves_none (Ok x) rules rows says is f = absurd (false≢true is)
 fill_leaves_none (Err y) rules rows says is f = refused_leaves rules (build_refusal y) says f
-
-pub fill_answers : (r : Result (Unit {0}) BuildError) (rows : List (List Act)) (says : Answer (List (List Act)))
-    → said_of (λ _. rows) build_refusal r ≡ says → said build_refusal r ≡ and_then says (λ _. granted tt)
-fill_answers (Ok x) rows says f = granted_answers rows says f
-fill_answers (Err y) rows says f = refused_answers (build_refusal y) says f
 
 pub granted_belongs : (policy : Policy) → Lawful policy → (b : Book) (t : Tables) → granted (table_of t) ≡ build_says policy (rules_of b) → Belongs b (Some t)
 granted_belongs policy law b t e = λ u same. subst (λ (v : Tables). Belonging (rules_of b) (table_of v)) (same_Some t u same) ∣ (policy, law, sym e) ∣₁

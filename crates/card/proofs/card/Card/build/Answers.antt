@@ -6,25 +6,22 @@ use Rattle.tables.specs.Built.{table_of}
 use Rattle.card.specs.Cards.{model_of}
 use Rattle.card.specs.Histories.{calls_build}
 use Rattle.card.specs.Models.{unbuilt, built_with}
-use Rattle.card.proofs.Filling.{fills, fill_grants, fill_leaves_none, fill_answers, granted_leaves, granted_belongs}
+use Rattle.card.proofs.Filling.{fills, fill_grants, fill_leaves_none, granted_leaves, granted_belongs}
 use Rattle.card.proofs.Serving.{serves}
 use Rattle.card.proofs.card.Card.build.Goals as goal
 
-pub returns-then-is_err : goal.returns-then-is_err
-returns-then-is_err g c =
+pub returns-then-is_err-clause-lawful : goal.returns-then-is_err-clause-lawful
+returns-then-is_err-clause-lawful g c = g.met.L.Lookahead.lawful c.args.look.now
+
+pub returns-then-is_err-clause-service : goal.returns-then-is_err-clause-service
+returns-then-is_err-clause-service g c law =
     let card = c.args.self.now in
     let policy = g.L.Lookahead.policy c.args.look.now in
     let rules = rules_of card.book in
-    let filled = c.fill_from-filled.result in
     let rows = table_of c.fill_from-filled.new.tables in
     let says = c.fill_from-filled.ensures ∙ fills policy rules card.sound in
-    let model = fill_leaves_none filled rules rows (build_says policy rules) (sym c.is_err.ensures.value ∙ c.if-is_err.true) says in
-    record {
-      answer = fill_answers filled rows (build_says policy rules) says;
-      lawful = g.met.L.Lookahead.lawful c.args.look.now;
-      model = λ law. model;
-      service = λ law. serves (calls_build policy law) (model_of card) (unbuilt rules) model;
-    }
+    let model = fill_leaves_none c.fill_from-filled.result rules rows (build_says policy rules) (sym c.is_err.ensures.value ∙ c.if-is_err.true) says in
+    serves (calls_build policy law) (model_of card) (unbuilt rules) model
 
 pub invariant_of-self-else-is_err : goal.invariant_of-self-else-is_err
 invariant_of-self-else-is_err g c =
