@@ -25,7 +25,7 @@ fn put_field(writer: &mut Writer, field: usize)
     requires { HasRoom (field_text field) writer.old }
     ensures { Writes (field_text field) writer.old writer.new }
 {
-    writer.put(b" ");
+    writer.put_byte(b' ');
     writer.put_number(field);
 }
 
@@ -37,7 +37,7 @@ pub(crate) fn put_fields(writer: &mut Writer, fields: &[usize])
     for field in fields {
         put_field(writer, *field);
     }
-    writer.put(b"\n");
+    writer.put_byte(b'\n');
 }
 
 // Writes a line.

@@ -1,5 +1,5 @@
 // Bytes, and numbers in base ten, written into a lent buffer.
-ghost use Rattle.std.specs.Prelude.{◌≡◌, ◌≤◌, length, decimal};
+ghost use Rattle.std.specs.Prelude.{◌≡◌, ◌≤◌, [], ◌∷◌, length, decimal};
 
 // A lent buffer, and the place up to which it is written.
 // Stays a slice with a place: the place is how many bytes are written, which a report answers.
@@ -45,6 +45,15 @@ impl<'a> Writer<'a> {
         self.at = end;
     }
 
+    // Writes one byte.
+    pub(crate) fn put_byte(&mut self, byte: u8)
+        requires { HasRoom (byte ∷ []) self.old }
+        ensures { Writes (byte ∷ []) self.old self.new }
+    {
+        self.out[self.at] = byte;
+        self.at += 1;
+    }
+
     // Writes a number.
     // Stays written digit by digit: std's clauses of `write!` say what was written on an Ok, and never that it is Ok.
     pub(crate) fn put_number(&mut self, n: usize)
@@ -54,6 +63,6 @@ impl<'a> Writer<'a> {
         if n >= 10 {
             self.put_number(n / 10);
         }
-        self.put(&[b'0' + (n % 10) as u8]);
+        self.put_byte(b'0' + (n % 10) as u8);
     }
 }

@@ -28,5 +28,8 @@ pub(crate) fn encode(row: &Row, out: &mut [u16])
     requires { length out.old ≡ symbol_count }
     ensures { out.new ≡ map word_of (acts_of row.now) }
 {
-    out.copy_from_slice(&row.actions.map(word_of));
+    // Stays an index into the other array, as in `settle`: mapped into an array of its own, a row took four times as long.
+    for (x, action) in row.actions.iter().enumerate() {
+        out[x] = word_of(*action);
+    }
 }

@@ -16,8 +16,8 @@ pub loop-field-preserved : goal.loop-field-preserved
 loop-field-preserved c =
     writes_more field_text c.args.fields.now c.loop-field.field-index 0 _ _ _ c.loop-field-test.true c.loop-field.invariant c.put_field.ensures
 
-pub put-requires : goal.put-requires
-put-requires c =
+pub put_byte-requires : goal.put_byte-requires
+put_byte-requires c =
     let fields = c.args.fields.now in
     let all = take_all c.loop-field.field-index fields c.loop-field-test.false in
     let w = writes_same _ _ _ _ (ap (flat_map field_text) all) c.loop-field.invariant in
@@ -27,4 +27,4 @@ pub returns : goal.returns
 returns c =
     let fields = c.args.fields.now in
     let all = take_all c.loop-field.field-index fields c.loop-field-test.false in
-    writes_then (flat_map field_text fields) (10 ∷ []) _ _ _ (writes_same _ _ _ _ (ap (flat_map field_text) all) c.loop-field.invariant) c.put.ensures
+    writes_then (flat_map field_text fields) (10 ∷ []) _ _ _ (writes_same _ _ _ _ (ap (flat_map field_text) all) c.loop-field.invariant) c.put_byte.ensures

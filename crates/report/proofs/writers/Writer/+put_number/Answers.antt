@@ -9,8 +9,8 @@ use Rattle.report.proofs.writers.Writer.+put_number.Goals.{then-n-ge10, else-n-g
 pub put_number-requires : goal.put_number-requires
 put_number-requires t c = (search rules, omega (arith, length_step c.args.n c.if-n-ge10.true (omega arith)))
 
-pub put-requires : goal.put-requires
-put-requires t c =
+pub put_byte-requires : goal.put_byte-requires
+put_byte-requires t c =
     let n = c.args.n in
     elim c.if-n-ge10.branch [
       | then-n-ge10 w ↦
@@ -26,6 +26,6 @@ returns t c =
     elim c.if-n-ge10.branch [
       | then-n-ge10 w ↦
           writes_same _ _ _ _ (sym (decimal_step n w.if-n-ge10.true (omega arith)))
-          (writes_then (decimal (n / 10)) ((48 + n % 10) ∷ []) _ _ _ (subst (Writes _ old) (sym w.self-is) w.put_number.ensures) c.put.ensures)
-      | else-n-ge10 w ↦ writes_same _ _ _ _ (one_digit n w.if-n-ge10.false) (subst (λ u. Writes ((48 + n % 10) ∷ []) u c.put.new.self) w.self-is c.put.ensures)
+          (writes_then (decimal (n / 10)) ((48 + n % 10) ∷ []) _ _ _ (subst (Writes _ old) (sym w.self-is) w.put_number.ensures) c.put_byte.ensures)
+      | else-n-ge10 w ↦ writes_same _ _ _ _ (one_digit n w.if-n-ge10.false) (subst (λ u. Writes ((48 + n % 10) ∷ []) u c.put_byte.new.self) w.self-is c.put_byte.ensures)
     ]
