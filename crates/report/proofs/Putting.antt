@@ -11,7 +11,11 @@ back_on xs ys a b h e =
     let q : a + (b - a) ≡ b = omega arith in
     ap (λ k. drop k xs) (sym q) ∙ sym (drop-drop (b - a) a xs) ∙ ap (drop (b - a)) e ∙ drop-drop (b - a) a ys ∙ ap (λ k. drop k ys) q
 
-puts_then : (t u : List ℕ) (at m n : ℕ) (xs ys zs : List ℕ) → Puts t at xs ys m → Puts u m ys zs n → Puts (t ++ u) at xs zs n
+pub puts_same : (t u : List ℕ) (at : ℕ) (xs ys : List ℕ) (m : ℕ) → t ≡ u → Puts t at xs ys m → Puts u at xs ys m
+puts_same t u at xs ys m e p = subst (λ w. Puts w at xs ys m) e p
+
+-- a text, and another from the place past it on
+pub puts_then : (t u : List ℕ) (at m n : ℕ) (xs ys zs : List ℕ) → Puts t at xs ys m → Puts u m ys zs n → Puts (t ++ u) at xs zs n
 puts_then t u at m n xs ys zs p q = record {
   next = omega (arith, p.next, q.next, length-append t u);
   front = q.front ∙ ap (λ w. w ++ u) p.front ∙ append_assoc (take at xs) t u;

@@ -1,4 +1,4 @@
-use Rattle.report.proofs.writers.Writer.+put_number.Given as goal
+use Rattle.report.proofs.writers.+put_number.Given as goal
 
 abbrev pub decreases-put_number : goal.decreases-put_number
 decreases-put_number l = l.n
