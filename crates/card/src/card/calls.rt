@@ -53,6 +53,7 @@ impl Card {
         ensures service { Serves (calls_enter (left ⟶ right.now)) (model_of self.old) (model_of self.new) }
     {
         self.book.enter(left, right)?;
+        // Tables that are gone already are not taken away again, here and below: that would write as many bytes as they have.
         if self.tables.is_some() {
             self.tables = None;
         }
