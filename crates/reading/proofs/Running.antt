@@ -129,7 +129,7 @@ module _ (rules : List Production) (rows : List (List Act)) (cap : ℕ) (s : Str
         let l : length ps ≡ length (places rules L.σ) = ap length L.shows.is_ps in
         omega arith
 
-    -- the read goes on from here, and what it then answers is its answer
+  -- the read goes on from here, and what it then answers is its answer
   pub record Going (ps : List StackedSymbol) (xs : List SpannedSymbol) (ws : List Token) (n pl : ℕ) (out : List StepOfNode) : Type 0 where
     pub alive : ∥ Alive ps xs ws n pl out ∥₁
     pub whole : (a : ReadAnswer) → Rd ps xs ws n pl out a → Rd [] [] s.tokens 0 0 [] a
