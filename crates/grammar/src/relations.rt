@@ -4,7 +4,7 @@ ghost use Rattle.book.specs.Held.{production_of, productions_of};
 ghost use Rattle.grammar.specs.Ends.{end_of};
 ghost use Rattle.grammar.specs.Laws.{Tells, RelationsTell};
 ghost use Rattle.grammar.specs.Meaning.{Corner};
-ghost use Rattle.grammar.specs.Relating.{related_by};
+ghost use Rattle.grammar.specs.Relating.{related_by, HasAllSets};
 ghost use Rattle.grammar.specs.Relations.{corner_step, corners_of, corners, behind, leftmost_of, followers_of, relations_of};
 ghost use Rattle.grammar.specs.Sets.{has, codes, union};
 
@@ -178,6 +178,11 @@ impl RelationSets {
             followers,
         }
     }
+
+    // Tells a proof that each table has a set for each symbol: it knows that of `self`, but not of what lies two references deep.
+    fn tell_sizes(&self)
+        ensures { HasAllSets self.now }
+    {}
 }
 
 // Rules, with the relation sets of a build beside them.
@@ -185,4 +190,15 @@ impl RelationSets {
 pub struct RelatedRules<'a> {
     pub rules: &'a [Rule],
     pub sets: &'a RelationSets,
+}
+
+impl<'a> RelatedRules<'a> {
+    // The rules. From a call of this on, a proof knows the tables' sizes; the field alone doesn't tell them.
+    pub fn rules(&self) -> &'a [Rule]
+        ensures value { result.now ≡ self.now.rules.now }
+        ensures sized { HasAllSets self.now.sets.now }
+    {
+        self.sets.tell_sizes();
+        self.rules
+    }
 }

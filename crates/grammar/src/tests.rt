@@ -1,6 +1,9 @@
 // Small books: corners, followers, useless codes, reads, and lookaheads under each policy.
+ghost use Rattle.grammar.specs.Lookahead.{slr};
+ghost use Rattle.grammar.specs.Policies.{slr_lawful};
+
 use crate::items::{DOTS, DotRow, is_complete, left_of, reads, right_of};
-use crate::lookaheads::{LSLR, LeftmostFollow, Lookahead, Slr};
+use crate::lookaheads::{LSLR, LeftmostFollow, Lookahead, Slr, lookahead_of};
 use crate::relations::{End, RelatedRules, RelationSets, corners, related};
 use crate::sets::{SYMBOLS, SymbolSet, contains, insert};
 use crate::useful::useless;
@@ -123,5 +126,39 @@ fn lookaheads_of_two_lists(rt: HostRuntime) -> Result<(), Fail> {
     let mut one = both;
     one[8][1] = false;
     has_just(&rt, &LSLR.lookahead(&related, &one, 7), &[2, 44, 1]);
+    Ok(())
+}
+
+// A policy as another crate may write it. Its early answer is right since no table has a set past the last code; the proof of that needs the tables' sizes.
+struct Guarded;
+
+impl Lookahead for Guarded {
+    ghost policy = { λ _. slr };
+
+    ghost lawful = { λ x. slr_lawful };
+
+    fn lookahead(&self, related: &RelatedRules, closed: &[DotRow], number: usize) -> SymbolSet {
+        let left = left_of(related.rules(), number) as usize;
+        if left >= SYMBOLS {
+            return [false; SYMBOLS];
+        }
+        Slr.lookahead(related, closed, number)
+    }
+}
+
+#[test]
+fn lookaheads_of_a_policy_of_ones_own(rt: HostRuntime) -> Result<(), Fail> {
+    let book = two_lists()?;
+    let rules = book.rules();
+    let sets = RelationSets::of(rules);
+    let related = RelatedRules { rules, sets: &sets };
+    assert_eq!(rt; related.rules().len(), 8);
+    let both = after_a_one();
+    has_just(
+        &rt,
+        &lookahead_of(&Guarded, &related, &both, 7),
+        &[2, 44, 1],
+    );
+    has_just(&rt, &lookahead_of(&Guarded, &related, &both, 0), &[0]);
     Ok(())
 }
